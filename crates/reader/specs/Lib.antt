@@ -1,0 +1,5 @@
+pub mod Refusals
+pub mod Held
+pub mod Ledgers
+pub mod Progress
+pub mod Standing
