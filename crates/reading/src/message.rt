@@ -22,7 +22,7 @@ impl Kind {
 }
 
 // What a family tells of a packet: a message without number and place.
-#[derive(Clone, Copy)]
+#[derive(Clone, Copy, PartialEq, Eq, Debug)]
 pub struct Body {
     pub kind: Kind,
     pub code: u8,
@@ -30,7 +30,7 @@ pub struct Body {
 }
 
 // Why bytes are no packet: the cause, the byte found, and the value expected there.
-#[derive(Clone, Copy)]
+#[derive(Clone, Copy, PartialEq, Eq, Debug)]
 pub struct Defect {
     pub cause: u8,
     pub found: u8,
@@ -38,7 +38,7 @@ pub struct Defect {
 }
 
 // What a family says of the first bytes at a place.
-#[derive(Clone, Copy)]
+#[derive(Clone, Copy, PartialEq, Eq, Debug)]
 pub enum Verdict {
     // More bytes are needed.
     Wait,
@@ -51,7 +51,7 @@ pub enum Verdict {
 }
 
 // A message has a number, from 1 upward, and the place of the bytes that it tells of.
-#[derive(Clone, Copy)]
+#[derive(Clone, Copy, PartialEq, Eq, Debug)]
 pub struct Message {
     pub kind: Kind,
     pub number: u64,

@@ -1,0 +1,136 @@
+// Reads a recording piece by piece, and prints what it holds.
+ghost use Rattle.navlog.specs.Pieces.{Piece-read};
+ghost use Rattle.std.specs.Results.{Cases};
+use crate::failure::Failure;
+use crate::failure::MemoryFailure;
+use crate::failure::ReaderFailure;
+use crate::failure::StreamFailure;
+use crate::inbox::Inbox;
+use crate::inbox::InboxSink;
+use crate::options::FamilyName;
+use crate::options::Recording;
+use oxts_record::family::Mcom;
+use oxts_record::family::McomFamily;
+use oxts_record::family::Ncom;
+use oxts_record::family::NcomFamily;
+use oxts_record::snapshot::Snapshot;
+use oxts_record::snapshot::SnapshotDisplay;
+use reader::counts::Counts;
+use reader::counts::CountsDisplay;
+use reader::reader::Reader;
+use reading::family::Family;
+use reading::message::MessageDisplay;
+use std::fs::File;
+use std::io;
+use std::io::BufWriter;
+use std::io::Read;
+use std::io::Write;
+
+// A recording is read in pieces of so many bytes.
+const PIECE: usize = 65536;
+
+// Reads a piece; the inbox then has the messages that it brought.
+fn read_piece<F: Family>(
+    reader: &mut Reader<F>,
+    piece: &[u8],
+    inbox: &mut Inbox,
+) -> Result<(), Failure>
+    ensures read { λ r. ⌜ Cases r (λ _. Piece-read model (now (reader .entry)) (now (piece .entry)) (now (reader .exit)) (now (inbox .exit))) (λ _. Unit {0}) ⌝ }
+{
+    inbox.messages.clear();
+    inbox.lost = false;
+    reader.feed(piece, inbox)?;
+    if inbox.lost {
+        Err(Failure::Memory)
+    } else {
+        Ok(())
+    }
+}
+
+fn print_messages<W: Write>(inbox: &Inbox, out: &mut W) -> io::Result<()> {
+    for message in inbox.messages.as_slice() {
+        writeln!(out, "{message}")?;
+    }
+    Ok(())
+}
+
+fn print_end<W: Write>(
+    counts: Counts,
+    snapshot: Snapshot,
+    heard: u32,
+    out: &mut W,
+) -> io::Result<()> {
+    writeln!(out, "{counts}")?;
+    writeln!(out, "{snapshot}")?;
+    writeln!(out, "heard {heard}")?;
+    out.flush()
+}
+
+// Prints the messages of all that the source gives, and hands back the reader that has read it.
+fn read_all<F: Family, S: Read, W: Write>(
+    rt: &LibcRuntime,
+    path: &str,
+    source: &mut S,
+    out: &mut W,
+) -> Result<Reader<F>, Failure> {
+    let mut reader = Reader::new();
+    let mut inbox = Inbox {
+        messages: Vec::new(rt.alloc()),
+        lost: false,
+    };
+    let mut piece = vec![in rt.alloc(); 0; PIECE]?;
+    for _ in 0..u64::MAX {
+        let n = match source.read(&mut piece) {
+            Ok(n) => n,
+            Err(error) => return Err(Failure::Recording(
+                String::from_str(rt.alloc(), path)?,
+                error,
+            )),
+        };
+        if n == 0 {
+            break;
+        }
+        read_piece::<F>(&mut reader, &piece[0..n], &mut inbox)?;
+        print_messages(&inbox, out)?;
+    }
+    Ok(reader)
+}
+
+fn log_source<S: Read>(
+    rt: &LibcRuntime,
+    recording: Recording<'_>,
+    source: &mut S,
+) -> Result<(), Failure> {
+    let mut out = BufWriter::new(rt.stdout());
+    match recording.family {
+        FamilyName::Ncom => {
+            let reader = read_all::<Ncom, S, _>(rt, recording.path, source, &mut out)?;
+            print_end(
+                reader.counts(),
+                reader.record().snapshot(),
+                reader.record().heard_count(),
+                &mut out,
+            )?;
+        }
+        FamilyName::Mcom => {
+            let reader = read_all::<Mcom, S, _>(rt, recording.path, source, &mut out)?;
+            print_end(
+                reader.counts(),
+                reader.record().snapshot(),
+                reader.record().heard_count(),
+                &mut out,
+            )?;
+        }
+    }
+    Ok(())
+}
+
+pub fn log(rt: &LibcRuntime, recording: Recording<'_>) -> Result<(), Failure> {
+    if recording.path == "-" {
+        return log_source(rt, recording, &mut rt.stdin());
+    }
+    match File::open(rt, recording.path) {
+        Ok(mut file) => log_source(rt, recording, &mut file),
+        Err(error) => Err(Failure::Recording(String::from_str(rt.alloc(), recording.path)?, error)),
+    }
+}
