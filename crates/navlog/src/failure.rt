@@ -1,6 +1,6 @@
 // Why navlog stops, told in one line.
-use reader::refusal::Refusal;
-use reader::refusal::RefusalDisplay;
+use reading::refusal::Refusal;
+use reading::refusal::RefusalDisplay;
 use std::alloc::AllocError;
 use std::alloc::Refused;
 use std::fmt;

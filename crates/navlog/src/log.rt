@@ -13,11 +13,10 @@ use oxts_record::family::Mcom;
 use oxts_record::family::McomFamily;
 use oxts_record::family::Ncom;
 use oxts_record::family::NcomFamily;
-use oxts_record::snapshot::Snapshot;
+use oxts_record::record::Record;
 use oxts_record::snapshot::SnapshotDisplay;
-use reader::counts::Counts;
-use reader::counts::CountsDisplay;
 use reader::reader::Reader;
+use reading::counts::CountsDisplay;
 use reading::family::Family;
 use reading::message::MessageDisplay;
 use std::fs::File;
@@ -54,12 +53,14 @@ fn print_messages<W: Write>(inbox: &Inbox, out: &mut W) -> io::Result<()> {
     Ok(())
 }
 
-fn print_end<W: Write>(
-    counts: Counts,
-    snapshot: Snapshot,
-    heard: u32,
+// The counts, the record and how many channels were heard.
+fn print_end<M: Copy, F: Family<Record = Record<M>>, W: Write>(
+    reader: &Reader<F>,
     out: &mut W,
 ) -> io::Result<()> {
+    let counts = reader.counts();
+    let snapshot = reader.record().snapshot();
+    let heard = reader.record().heard_count();
     writeln!(out, "{counts}")?;
     writeln!(out, "{snapshot}")?;
     writeln!(out, "heard {heard}")?;
@@ -105,21 +106,11 @@ fn log_source<S: Read>(
     match recording.family {
         FamilyName::Ncom => {
             let reader = read_all::<Ncom, S, _>(rt, recording.path, source, &mut out)?;
-            print_end(
-                reader.counts(),
-                reader.record().snapshot(),
-                reader.record().heard_count(),
-                &mut out,
-            )?;
+            print_end(&reader, &mut out)?;
         }
         FamilyName::Mcom => {
             let reader = read_all::<Mcom, S, _>(rt, recording.path, source, &mut out)?;
-            print_end(
-                reader.counts(),
-                reader.record().snapshot(),
-                reader.record().heard_count(),
-                &mut out,
-            )?;
+            print_end(&reader, &mut out)?;
         }
     }
     Ok(())

@@ -2,12 +2,15 @@
 use mathlib.Core.List.{List}
 use Prim.Native.Nat.{ℕ, _+_}
 use lib.IntN.{pos}
+use lib.ListN.{getD}
 use Rattle.oxts.specs.declared.batches.BatchC.{BatchC}
 use Rattle.oxts.specs.declared.batches.Inertial.{Inertial}
 use Rattle.oxts.specs.declared.batches.Solution.{Solution}
+use Rattle.oxts.specs.declared.batches.StatusBatch.{StatusBatch}
 use Rattle.oxts.specs.declared.batches.Vector.{Vector}
 use Rattle.oxts.specs.declared.format.Format.{Format}
 use Rattle.oxts.specs.declared.format.Format.the-variants.{Ncom, Mcom}
+use Rattle.oxts.specs.Formats.{channel-place}
 use Rattle.oxts.specs.Words.{unsigned16At, signed24At, unsigned32At, signed64At}
 
 abbrev pub vector-at : List ℕ → ℕ → Vector
@@ -32,3 +35,8 @@ solution-in bs =
 abbrev pub batch-c-in : Format → List ℕ → BatchC
 batch-c-in Ncom bs = record { front = pos 0; back = 0 }
 batch-c-in Mcom bs = record { front = signed64At bs 62; back = unsigned32At bs 70 }
+
+-- the channel's number, the eight bytes of Batch S behind it, and Batch C
+abbrev pub status-batch-in : Format → List ℕ → StatusBatch
+status-batch-in f bs =
+    record { channel = getD bs (channel-place f) 0; «batch_s» = signed64At bs (channel-place f + 1); «batch_c» = batch-c-in f bs }

@@ -2,9 +2,3 @@ pub mod Formats
 pub mod Status
 pub mod Words
 pub mod Batches
-pub mod Causes
-pub mod Bodies
-pub mod Judge
-pub mod Models
-pub mod Lawful
-pub mod Packets

@@ -1,8 +1,9 @@
 // The quantities of a packet, batch by batch.
 ghost use mathlib.Core.Path.{_≡_};
 ghost use Prim.Native.Nat.{_<_};
-ghost use Rattle.oxts.specs.Batches.{vector-at, inertial-in, solution-in, batch-c-in};
+ghost use Rattle.oxts.specs.Batches.{vector-at, inertial-in, solution-in, batch-c-in, status-batch-in};
 use crate::format::Format;
+use crate::words::byte_at;
 use crate::words::i24_at;
 use crate::words::i64_at;
 use crate::words::u16_at;
@@ -43,6 +44,14 @@ pub struct BatchC {
     pub back: u32,
 }
 
+// The number of the status channel, the pattern of its eight bytes in Batch S, and Batch C.
+#[derive(Clone, Copy)]
+pub struct StatusBatch {
+    pub channel: u8,
+    pub batch_s: i64,
+    pub batch_c: BatchC,
+}
+
 fn vector_at(packet: &[u8], at: usize) -> Vector
     requires few { ⌜ at < 128 ⌝ }
     ensures value { λ r. ⌜ r ≡ vector-at (now (packet .entry)) at ⌝ }
@@ -76,7 +85,7 @@ pub fn solution_in(packet: &[u8]) -> Solution
     }
 }
 
-pub fn batch_c_in(format: Format, packet: &[u8]) -> BatchC
+fn batch_c_in(format: Format, packet: &[u8]) -> BatchC
     ensures value { λ r. ⌜ r ≡ batch-c-in format (now (packet .entry)) ⌝ }
 {
     match format {
@@ -85,6 +94,17 @@ pub fn batch_c_in(format: Format, packet: &[u8]) -> BatchC
             front: i64_at(packet, 62),
             back: u32_at(packet, 70),
         },
+    }
+}
+
+pub fn status_batch_in(format: Format, packet: &[u8]) -> StatusBatch
+    ensures value { λ r. ⌜ r ≡ status-batch-in format (now (packet .entry)) ⌝ }
+{
+    let place = format.channel_place();
+    StatusBatch {
+        channel: byte_at(packet, place),
+        batch_s: i64_at(packet, place + 1),
+        batch_c: batch_c_in(format, packet),
     }
 }
 

@@ -2,7 +2,7 @@
 ghost use mathlib.Core.Path.{_≡_};
 ghost use Prim.Native.Nat.{_<_};
 ghost use lib.ListN.{getD};
-ghost use Rattle.oxts.specs.Words.{unsigned16, unsigned16At, signed24, signed24At, unsigned32At, signed64At};
+ghost use Rattle.oxts.specs.Words.{unsigned16At, signed24, signed24At, unsigned32At, signed64At};
 
 pub fn byte_at(bytes: &[u8], at: usize) -> u8
     ensures value { λ r. ⌜ r ≡ getD (now (bytes .entry)) at 0 ⌝ }

@@ -1,2 +1,3 @@
 pub mod OneBit
 pub mod Hearing
+pub mod FormatReads

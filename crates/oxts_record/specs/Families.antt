@@ -1,8 +1,8 @@
 -- The packet families NCOM and MCOM: a format, with a record of its own.
 use Rattle.reading.specs.Reading.{Model, Laws}
 use Rattle.oxts.specs.declared.format.Format.the-variants.{Ncom as ncom, Mcom as mcom}
-use Rattle.oxts.specs.Lawful.{oxts-laws}
-use Rattle.oxts.specs.Models.{oxts-model}
+use Rattle.oxts_judge.specs.Lawful.{oxts-laws}
+use Rattle.oxts_judge.specs.Models.{oxts-model}
 use Rattle.oxts_record.specs.declared.family.Ncom.{Ncom}
 use Rattle.oxts_record.specs.declared.family.Mcom.{Mcom}
 use Rattle.oxts_record.specs.declared.record.Record.{Record}

@@ -2,8 +2,8 @@
 ghost use Rattle.oxts_record.specs.Families.{ncom-model, mcom-model, ncom-laws, mcom-laws};
 use crate::record::Record;
 use oxts::format::Format;
-use oxts::hints;
-use oxts::judge::judge;
+use oxts_judge::hints;
+use oxts_judge::judge::judge;
 use reading::family::Family;
 use reading::message::Verdict;
 

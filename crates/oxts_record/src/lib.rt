@@ -5,6 +5,4 @@ pub mod family;
 mod navigation;
 pub mod record;
 pub mod snapshot;
-#[cfg(test)]
-mod tests;
 pub mod theorems;

@@ -1,4 +1,3 @@
-pub mod Refusals
 pub mod Held
 pub mod Ledgers
 pub mod Progress

@@ -5,8 +5,8 @@ use Prim.Native.Nat.{ℕ, _+_, _≤_, _<_, _^_}
 use lib.ListN.{length}
 use Rattle.std.specs.declared.result.Result.{Result}
 use Rattle.std.specs.declared.result.Result.the-variants.{Ok, Err}
-use Rattle.reader.specs.declared.counts.Counts.{Counts}
-use Rattle.reader.specs.declared.refusal.Refusal.{Refusal}
+use Rattle.reading.specs.declared.counts.Counts.{Counts}
+use Rattle.reading.specs.declared.refusal.Refusal.{Refusal}
 use Rattle.reading.specs.declared.message.Message.{Message}
 use Rattle.reader.specs.declared.reader.Reader.{Reader}
 use Rattle.reading.specs.Reading.{Model, Reading, reading}

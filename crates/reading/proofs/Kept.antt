@@ -1,9 +1,8 @@
 -- Where the bytes, messages and packets of a reading lie in its string, and that messages only grow.
-use mathlib.Core.Path.{_≡_, refl, sym, ap, _∙_}
+use mathlib.Core.Path.{_≡_, refl, sym, ap, subst, _∙_}
 use mathlib.Core.Bool.{Bool, true, false, cond}
 use mathlib.Core.List.{List, [], _∷_, _++_, append-assoc}
-use Prim.Native.Nat.{ℕ, suc, _+_, _≤_, _<_}
-use native.Mathlib.Nat.{add-zero}
+use Prim.Native.Nat.{ℕ, suc, _+_, _-_, _≤_, _<_}
 use native.Mathlib.Omega.{arith}
 use lib.Dec.{eqb}
 use lib.ListN.{length, take, drop, length-drop, length-append}
@@ -13,8 +12,10 @@ use Rattle.reading.specs.declared.message.Defect.{Defect}
 use Rattle.reading.specs.declared.message.Message.{Message}
 use Rattle.reading.specs.declared.message.Verdict.{Verdict}
 use Rattle.reading.specs.declared.message.Verdict.the-variants.{Wait, Early, Fault, Whole}
-use Rattle.reading.specs.Reading.{Model, Tally, Packet, told, faulted, completed, body-message, fault-message, reading, nothing, is-passed}
+use Rattle.reading.specs.Reading.{Model, Tally, Packet, told, faulted, completed, body-message, fault-message, reading, nothing, is-passed, decided, Open}
+use Rattle.reading.specs.Rules.{Accepts}
 use Rattle.reading.specs.Keeps.{Each, Rising, Behind, Found, total-length, passes, passed-count, record-of}
+use Rattle.reading.proofs.Opens.{open-more, open-none}
 use Rattle.reading.proofs.Steps.{After, Finally, read-keeps, resumed-keeps, reading-more}
 
 each-push : {A : Type 0} (P : A → Type 0) (xs : List A) (x : A) → Each P xs → P x → Each P (xs ++ x ∷ [])
@@ -53,6 +54,7 @@ module _ {R : Type 0} (m : Model R) where
   -- Where t was read of bs and `rest` is left.
   pub record Sound (bs : List ℕ) (t : Tally R) (n : ℕ) (rest : List ℕ) : Type 0 where
     pub at : rest ≡ drop (t .accepted + t .skipped) bs
+    pub before : Open (m .judge) rest n
     pub total : t .accepted + t .skipped + length rest ≡ length bs
     pub rising : Rising 0 (t .messages) (t .accepted + t .skipped)
     pub inside : Each (λ x. x .place < length bs) (t .messages)
@@ -64,10 +66,11 @@ module _ {R : Type 0} (m : Model R) where
     pub made : t .made ≡ record-of m (m .first) (t .packets)
 
   module _ (bs : List ℕ) (t : Tally R) (n : ℕ) (rest : List ℕ) (h : n < length rest) (s : Sound bs t n rest) where
-    sound-early : (b : Body) → Sound bs (told b t) (suc n) rest
-    sound-early b =
+    sound-early : (b : Body) → m .judge (take (suc n) rest) ≡ Early b → Sound bs (told b t) (suc n) rest
+    sound-early b e =
         record {
           at = s .at;
+          before = open-more m rest n (s .before) (ap decided e);
           total = s .total;
           rising = rising-push 0 (t .messages) (body-message t b) (t .accepted + t .skipped) (s .rising) (omega arith);
           inside = each-push (λ x. x .place < length bs) (t .messages) (body-message t b) (s .inside) (omega (arith, s .total));
@@ -95,6 +98,7 @@ module _ {R : Type 0} (m : Model R) where
         let same : t .accepted + t .skipped + 1 ≡ t .accepted + (t .skipped + 1) = omega arith in
         record {
           at = further 1 ∙ ap (λ k. drop k bs) same;
+          before = open-none m (drop 1 rest);
           total = simp length-drop (omega (arith, s .total));
           rising = fault-rising d (eqb (suc n) 1);
           inside = fault-inside d (eqb (suc n) 1);
@@ -106,6 +110,13 @@ module _ {R : Type 0} (m : Model R) where
           made = s .made;
         }
 
+    accepted-here : (b : Body) → m .judge (take (suc n) rest) ≡ Whole b → Accepts m (drop (t .accepted + t .skipped) bs) (length (take (suc n) rest)) b
+    accepted-here b e =
+        let size : suc n ≡ length (take (suc n) rest) = sym (length-take-le (suc n) rest h) in
+        let same : suc n - 1 ≡ n = omega arith in
+        subst (λ xs. Accepts m xs (length (take (suc n) rest)) b) (s .at)
+        (subst (λ k. Accepts m rest k b) size (record { some = omega arith; within = h; before = rw same (s .before); here = e }))
+
     sound-whole : (b : Body) → m .judge (take (suc n) rest) ≡ Whole b → Sound bs (completed m (take (suc n) rest) b t) 0 (drop (suc n) rest)
     sound-whole b e =
         let bytes : List ℕ = take (suc n) rest in
@@ -116,10 +127,11 @@ module _ {R : Type 0} (m : Model R) where
         let stands : take (length bytes) (drop place bs) ≡ bytes = ap (λ k. take k (drop place bs)) size ∙ ap (take (suc n)) (sym (s .at)) in
         record {
           at = further (suc n) ∙ ap (λ k. drop k bs) same;
+          before = open-none m (drop (suc n) rest);
           total = simp length-drop (omega (arith, s .total));
           rising = rising-push 0 (t .messages) (body-message t b) (t .accepted + length bytes + t .skipped) (s .rising) (omega arith);
           inside = each-push (λ x. x .place < length bs) (t .messages) (body-message t b) (s .inside) (omega (arith, s .total));
-          found = each-push (Found m bs) (t .packets) packet (s .found) (record { bytes = stands; body = b; whole = e });
+          found = each-push (Found m bs) (t .packets) packet (s .found) (record { bytes = stands; body = b; accepted = accepted-here b e });
           behind = behind-push 0 (t .packets) packet (t .accepted + length bytes + t .skipped) (s .behind) (omega arith);
           accepted = ap (λ k. k + length bytes) (s .accepted) ∙ sym (total-push (t .packets) packet);
           whole = ap (λ k. k + 1) (s .whole) ∙ sym (length-push (t .packets) packet);
@@ -129,8 +141,8 @@ module _ {R : Type 0} (m : Model R) where
 
   sound-keeps : (bs : List ℕ) (t : Tally R) (n : ℕ) (rest : List ℕ) (v : Verdict) → n < length rest → m .judge (take (suc n) rest) ≡ v → Sound bs t n rest → After m (Sound bs) t (suc n) rest v
   sound-keeps bs t n rest Wait h e s =
-      record { at = s .at; total = s .total; rising = s .rising; inside = s .inside; found = s .found; behind = s .behind; accepted = s .accepted; whole = s .whole; passed = s .passed; made = s .made }
-  sound-keeps bs t n rest (Early b) h e s = sound-early bs t n rest h s b
+      record { at = s .at; before = open-more m rest n (s .before) (ap decided e); total = s .total; rising = s .rising; inside = s .inside; found = s .found; behind = s .behind; accepted = s .accepted; whole = s .whole; passed = s .passed; made = s .made }
+  sound-keeps bs t n rest (Early b) h e s = sound-early bs t n rest h s b e
   sound-keeps bs t n rest (Fault d) h e s = sound-fault bs t n rest h s d
   sound-keeps bs t n rest (Whole b) h e s = sound-whole bs t n rest h s b e
 
@@ -138,7 +150,7 @@ module _ {R : Type 0} (m : Model R) where
   unfolding reading
   sound bs =
       read-keeps m (Sound bs) (sound-keeps bs) (length bs) (nothing m) bs (omega arith)
-      (record { at = refl; total = omega arith; rising = omega arith; inside = tt; found = tt; behind = omega arith; accepted = refl; whole = refl; passed = refl; made = refl })
+      (record { at = refl; before = open-none m bs; total = omega arith; rising = omega arith; inside = tt; found = tt; behind = omega arith; accepted = refl; whole = refl; passed = refl; made = refl })
 
   -- the messages only grow
   abbrev Grown : List Message → Tally R → ℕ → List ℕ → Type 0

@@ -12,7 +12,8 @@ use Rattle.reading.specs.declared.message.Message.{Message}
 use Rattle.reading.specs.declared.message.Verdict.{Verdict}
 use Rattle.reading.specs.declared.message.Verdict.the-variants.{Wait, Early, Fault, Whole}
 use Rattle.reading.specs.Kinds.{kind-bit}
-use Rattle.reading.specs.Reading.{Model, Tally, Packet, reading, is-passed}
+use Rattle.reading.specs.Reading.{Model, Packet, reading, is-passed}
+use Rattle.reading.specs.Rules.{Accepts}
 
 abbrev pub Each : {A : Type 0} → (A → Type 0) → List A → Type 0
 Each P [] = Unit {0}
@@ -41,11 +42,11 @@ abbrev pub Behind : ℕ → List Packet → ℕ → Type 0
 Behind low [] high = low ≤ high
 Behind low (p ∷ ps) high = (low ≤ p .place) × Behind (p .place + length (p .bytes)) ps high
 
--- The packet stands in the string bs, and is whole.
+-- The packet stands in the string bs at its place, and is accepted there by the rules.
 pub record Found {R : Type 0} (m : Model R) (bs : List ℕ) (p : Packet) : Type 0 where
   pub bytes : take (length (p .bytes)) (drop (p .place) bs) ≡ p .bytes
   pub body : Body
-  pub whole : m .judge (p .bytes) ≡ Whole body
+  pub accepted : Accepts m (drop (p .place) bs) (length (p .bytes)) body
 
 abbrev pub total-length : List Packet → ℕ
 total-length [] = 0
@@ -102,7 +103,7 @@ pub record Keeps {R : Type 0} (m : Model R) : Type 0 where
   -- their places never fall, and lie in the string
   pub rising : (bs : List ℕ) → Rising 0 (reading m bs .tally .messages) (reading m bs .tally .accepted + reading m bs .tally .skipped)
   pub inside : (bs : List ℕ) → Each (λ x. x .place < length bs) (reading m bs .tally .messages)
-  -- the packets stand in the string where they say, one behind another, and each is whole
+  -- the packets stand in the string where they say, one behind another, and each was accepted there
   pub found : (bs : List ℕ) → Each (Found m bs) (reading m bs .tally .packets)
   pub behind : (bs : List ℕ) → Behind 0 (reading m bs .tally .packets) (reading m bs .tally .accepted + reading m bs .tally .skipped)
   -- accepted bytes, whole packets, passed packets and record are those of these packets

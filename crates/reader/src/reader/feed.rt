@@ -8,11 +8,11 @@ ghost use Rattle.reader.specs.Progress.{Bounds};
 ghost use Rattle.reader.specs.Standing.{Stands, Fed, Ran};
 use crate::ledger::Ledger;
 use crate::reader::Reader;
-use crate::refusal::Refusal;
 use crate::scan::part;
 use crate::scan::scan;
 use crate::window::Window;
 use reading::family::Family;
+use reading::refusal::Refusal;
 use reading::sink::Sink;
 
 // A reader reads at most so many bytes.

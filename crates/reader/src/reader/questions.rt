@@ -5,8 +5,8 @@ ghost use Prim.Native.Nat.{ℕ};
 ghost use Rattle.reader.specs.Ledgers.{latest-of};
 ghost use Rattle.reading.specs.Reading.{reading};
 ghost use Rattle.reader.specs.Standing.{Stands, counts-of};
-use crate::counts::Counts;
 use crate::reader::Reader;
+use reading::counts::Counts;
 use reading::family::Family;
 use reading::message::Message;
 

@@ -1,7 +1,0 @@
-use borrow.Author.Needs.{needs}
-use Rattle.oxts.specs.Bodies.{inertial-body}
-use Rattle.oxts.proofs.bodies.inertial_body.Needs as need
-
-pub returns : need.returns
-unfolding inertial-body
-returns c = search needs

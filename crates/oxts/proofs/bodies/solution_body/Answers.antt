@@ -1,7 +1,0 @@
-use borrow.Author.Needs.{needs}
-use Rattle.oxts.specs.Bodies.{solution-body}
-use Rattle.oxts.proofs.bodies.solution_body.Needs as need
-
-pub returns : need.returns
-unfolding solution-body
-returns c = search needs

@@ -1,7 +1,0 @@
-use borrow.Author.Needs.{needs}
-use Rattle.oxts.specs.Bodies.{status-body}
-use Rattle.oxts.proofs.bodies.status_body.Needs as need
-
-pub returns : need.returns
-unfolding status-body
-returns c = search needs

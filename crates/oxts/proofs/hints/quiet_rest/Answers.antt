@@ -1,6 +1,0 @@
-use native.Mathlib.Omega.{arith}
-use Rattle.oxts.proofs.Quiets.{none-more}
-use Rattle.oxts.proofs.hints.quiet_rest.Needs as need
-
-pub loop-n-again : need.loop-n-again
-loop-n-again c = record { within = omega arith; none = none-more (c .args .bytes .now) (c .loop-n .n) (c .loop-n .inv .none) (c .if-bytes-n .left) }
