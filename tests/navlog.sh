@@ -1,5 +1,5 @@
 #!/usr/bin/env bash
-# navlog as a user meets it: both samples, pieces, standard input, help, and each mistake with its line and status.
+# navlog as a user meets it: both samples, pieces, standard input, datagrams and frames, help, and each mistake with its line and status.
 set -u
 cd "$(dirname "$0")/.."
 ./run >/dev/null || { echo "navlog does not build or run"; exit 1; }
@@ -46,9 +46,20 @@ for b in open(sys.argv[1], "rb").read():
 P
 cmp -s "$out" crates/navlog/stdout || wrong "small pieces: other output"
 same "empty recording" tests/empty.out ncom /dev/null
+same "datagrams" crates/navlog/stdout --datagrams ncom $data/datagrams.ncom
+same "frames" crates/navlog/stdout ncom --frames $data/frames.ncom
+same "frames inside datagrams" crates/navlog/stdout --frames --datagrams ncom $data/both.ncom
+same "datagrams on standard input" crates/navlog/stdout --datagrams ncom - <$data/datagrams.ncom
+
+# the last record is cut short: all before it is read and printed, then its place is told
+status=0
+"$navlog" --datagrams ncom $data/cut.ncom >"$out" 2>"$err" || status=$?
+[ $status = 1 ] || wrong "a datagram cut short: status $status"
+cmp -s "$out" tests/cut.out || wrong "a datagram cut short: other output"
+[ "$(cat "$err")" = "navlog: '$data/cut.ncom': refusal 16: the record at byte 897 is cut short" ] || wrong "a datagram cut short: says $(cat "$err")"
 
 "$navlog" --help >"$out" 2>"$err" || wrong "help: status $?"
-grep -q '^navlog FAMILY FILE' "$out" || wrong "help: does not say how to call it"
+grep -q '^navlog .* FAMILY FILE' "$out" || wrong "help: does not say how to call it"
 refused "no words" "no family given"
 refused "unknown family" "unknown family 'xcom': ncom or mcom" xcom $data/sample.ncom
 refused "no file" "no recording given" ncom

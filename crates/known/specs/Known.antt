@@ -1,15 +1,16 @@
--- Streams and words whose results are known beforehand.
+-- Streams, words and lines whose results are known beforehand.
 use mathlib.Core.List.{List, [], _∷_, _++_}
 use mathlib.Core.Path.{_≡_}
 use Prim.Native.Nat.{ℕ}
 use lib.IntN.{pos, negsuc}
-use lib.ListN.{replicate}
+use lib.ListN.{replicate, take}
 use Rattle.reading.specs.declared.message.Kind.{Kind}
 use Rattle.reading.specs.declared.message.Kind.the-variants.{Inertial, Solution, Status, Passed, Fault}
 use Rattle.reading.specs.declared.message.Message.{Message}
 use Rattle.reading.specs.Reading.{Model, reading}
 use Rattle.reading.specs.declared.counts.Counts.{Counts}
 use Rattle.reader.specs.Standing.{counts-of}
+use Rattle.line.specs.Lines.{contents}
 use Rattle.oxts.specs.Words.{signed24}
 use Rattle.oxts_record.specs.Families.{ncom-model, mcom-model}
 
@@ -36,6 +37,10 @@ pub record Reads {R : Type 0} (m : Model R) (bs : List ℕ) (ms : List Message) 
 abbrev pub structure-b : ℕ → List ℕ
 structure-b last = 231 ∷ replicate 20 0 ++ (11 ∷ replicate 49 0 ++ (last ∷ []))
 
+-- carrier frames: filler, one of two content bytes and one of one
+abbrev pub carried : List ℕ
+carried = 0 ∷ 2 ∷ 170 ∷ 187 ∷ 1 ∷ 204 ∷ []
+
 pub record Known : Type 0 where
   -- 0xE7 and 71 zeros are one whole NCOM packet of status 0, and 83 zeros one of MCOM
   pub zeros : Reads ncom-model (231 ∷ replicate 71 0) (blank Inertial 1 0 0 ∷ blank Solution 2 0 0 ∷ blank Status 3 0 0 ∷ []) (counted 72 72 0 0 1 0 0 3)
@@ -55,3 +60,6 @@ pub record Known : Type 0 where
   pub least : signed24 0 0 128 ≡ negsuc 8388607
   pub most : signed24 255 255 127 ≡ pos 8388607
   pub minus-one : signed24 255 255 255 ≡ negsuc 0
+  -- what an opener lets through, and a meter with a credit of 2 over it
+  pub opened : contents 0 carried ≡ 170 ∷ 187 ∷ 204 ∷ []
+  pub metered : take 2 (contents 0 carried) ≡ 170 ∷ 187 ∷ []

@@ -1,4 +1,6 @@
-// The code on words, statuses, streams and packets whose results are known.
+// The code on words, statuses, streams and packets whose results are known, and on piles of lines.
+mod piles;
+
 use crate::packets::packet;
 use crate::packets::read_in_two;
 use crate::packets::read_packets;

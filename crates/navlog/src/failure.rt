@@ -1,4 +1,6 @@
 // Why navlog stops, told in one line.
+use line::refusal::RecordRefusal;
+use line::refusal::RecordRefusalDisplay;
 use reading::refusal::Refusal;
 use reading::refusal::RefusalDisplay;
 use std::alloc::AllocError;
@@ -15,6 +17,8 @@ pub enum Failure {
     WordTooMany(String),
     // The recording of this name cannot be opened or read.
     Recording(String, io::Error),
+    // The datagrams of the recording of this name are cut short.
+    Records(String, RecordRefusal),
     // The reader takes no more bytes.
     Refused(Refusal),
     Memory,
@@ -66,6 +70,7 @@ pub impl fmt::Display for Failure as FailureDisplay {
                 "one family and one file, and no '{word}' (see navlog --help)"
             ),
             Failure::Recording(path, error) => write!(f, "cannot read '{path}': {error}"),
+            Failure::Records(path, refusal) => write!(f, "'{path}': {refusal}"),
             Failure::Refused(refusal) => write!(f, "{refusal}"),
             Failure::Memory => f.write_str("out of memory"),
             Failure::Stream(error) => write!(f, "{error}"),

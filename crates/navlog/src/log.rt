@@ -1,6 +1,8 @@
 // Reads a recording piece by piece, and prints what it holds.
 ghost use Rattle.navlog.specs.Pieces.{Piece-read};
 ghost use Rattle.std.specs.Results.{Cases};
+use crate::carried::Carried;
+use crate::carried::CarriedRead;
 use crate::failure::Failure;
 use crate::failure::MemoryFailure;
 use crate::failure::ReaderFailure;
@@ -9,6 +11,13 @@ use crate::inbox::Inbox;
 use crate::inbox::InboxSink;
 use crate::options::FamilyName;
 use crate::options::Recording;
+use line::datagram::Datagram;
+use line::datagram::DatagramLine;
+use line::datagram::record_count;
+use line::opener::Opener;
+use line::opener::OpenerLine;
+use line::plain::Plain;
+use line::plain::PlainLine;
 use oxts_record::family::Mcom;
 use oxts_record::family::McomFamily;
 use oxts_record::family::Ncom;
@@ -83,10 +92,7 @@ fn read_all<F: Family, S: Read, W: Write>(
     for _ in 0..u64::MAX {
         let n = match source.read(&mut piece) {
             Ok(n) => n,
-            Err(error) => return Err(Failure::Recording(
-                String::from_str(rt.alloc(), path)?,
-                error,
-            )),
+            Err(error) => return Err(unreadable(rt, path, error)),
         };
         if n == 0 {
             break;
@@ -116,12 +122,59 @@ fn log_source<S: Read>(
     Ok(())
 }
 
+// The recording of this name cannot be opened or read.
+fn unreadable(rt: &LibcRuntime, path: &str, error: io::Error) -> Failure {
+    match String::from_str(rt.alloc(), path) {
+        Ok(path) => Failure::Recording(path, error),
+        Err(_) => Failure::Memory,
+    }
+}
+
+// Reads the recording through the lines that carry it. A datagram that is cut short is told once all before it is printed.
+fn log_carried(rt: &LibcRuntime, recording: Recording<'_>, memory: &[u8]) -> Result<(), Failure> {
+    if !recording.datagrams {
+        return log_source(
+            rt,
+            recording,
+            &mut Carried(Opener::new(Plain::new(memory, PIECE))),
+        );
+    }
+    let datagrams = Datagram::new(memory);
+    if recording.frames {
+        log_source(rt, recording, &mut Carried(Opener::new(datagrams)))?;
+    } else {
+        log_source(rt, recording, &mut Carried(datagrams))?;
+    }
+    match record_count(memory) {
+        Ok(_) => Ok(()),
+        Err(refusal) => Err(Failure::Records(
+            String::from_str(rt.alloc(), recording.path)?,
+            refusal,
+        )),
+    }
+}
+
+fn log_from<S: Read>(
+    rt: &LibcRuntime,
+    recording: Recording<'_>,
+    source: &mut S,
+) -> Result<(), Failure> {
+    if !recording.datagrams && !recording.frames {
+        return log_source(rt, recording, source);
+    }
+    let mut memory = Vec::new(rt.alloc());
+    match source.read_to_end(&mut memory) {
+        Ok(_) => log_carried(rt, recording, memory.as_slice()),
+        Err(error) => Err(unreadable(rt, recording.path, error)),
+    }
+}
+
 pub fn log(rt: &LibcRuntime, recording: Recording<'_>) -> Result<(), Failure> {
     if recording.path == "-" {
-        return log_source(rt, recording, &mut rt.stdin());
+        return log_from(rt, recording, &mut rt.stdin());
     }
     match File::open(rt, recording.path) {
-        Ok(mut file) => log_source(rt, recording, &mut file),
-        Err(error) => Err(Failure::Recording(String::from_str(rt.alloc(), recording.path)?, error)),
+        Ok(mut file) => log_from(rt, recording, &mut file),
+        Err(error) => Err(unreadable(rt, recording.path, error)),
     }
 }

@@ -1,6 +1,7 @@
 // navlog: prints what a recording of an inertial unit holds, its messages first, then counts and record.
 use std::env;
 
+mod carried;
 mod failure;
 mod inbox;
 mod log;
@@ -12,10 +13,13 @@ use crate::failure::StreamFailure;
 use failure::Failure;
 use options::Command;
 
-const HELP: &str = "navlog FAMILY FILE: prints what a recording of an inertial unit holds
+const HELP: &str =
+    "navlog [--datagrams] [--frames] FAMILY FILE: prints what a recording of an inertial unit holds
 
-FAMILY  ncom or mcom
-FILE    the recording, plain bytes as they came from the line; - for standard input
+FAMILY       ncom or mcom
+FILE         the recording, bytes as they came from the line; - for standard input
+--datagrams  the recording is datagrams, each a length of two bytes, the low one first, and its content
+--frames     the bytes are carrier frames, each a length byte and its content, inside datagrams if it has those
 
 It prints a line for each message in the order of the recording,
   message NUMBER kind KIND place PLACE code CODE : nine quantities

@@ -1,8 +1,8 @@
 // The words of the command line.
-ghost use mathlib.Core.Path.{_≡_};
 ghost use Rattle.navlog.specs.Names.{Names};
 use crate::failure::Failure;
 use crate::failure::MemoryFailure;
+use crate::failure::RoomFailure;
 use std::alloc::Global;
 
 #[derive(Clone, Copy)]
@@ -11,10 +11,13 @@ pub enum FamilyName {
     Mcom,
 }
 
-#[derive(Drop)]
+// A recording by its name, and what carries its bytes: datagrams, frames, or frames inside datagrams.
+#[derive(Clone, Copy)]
 pub struct Recording<'a> {
     pub family: FamilyName,
     pub path: &'a str,
+    pub datagrams: bool,
+    pub frames: bool,
 }
 
 #[derive(Drop)]
@@ -33,46 +36,50 @@ fn family_named(word: &str) -> Option<FamilyName>
     }
 }
 
-fn asks_help(words: &[String]) -> bool {
+fn has_word(words: &[String], wanted: &str) -> bool {
     for word in words {
-        if word.as_str() == "--help" || word.as_str() == "-h" {
+        if word.as_str() == wanted {
             return true;
         }
     }
     false
 }
 
-// The first word that begins with a hyphen; a lone hyphen is standard input, and no option.
-fn first_option(words: &[String]) -> Option<&str> {
+// The words that are no options; an option that is not known is refused. A lone hyphen is standard input, and no option.
+fn plain_words(heap: Global, words: &[String]) -> Result<Vec<&str>, Failure> {
+    let mut plain = Vec::new(heap);
     for word in words {
-        let text = word.as_str();
-        if text.starts_with('-') && text != "-" {
-            return Some(text);
+        match word.as_str() {
+            "--datagrams" | "--frames" => {}
+            text if text.starts_with('-') && text != "-" => {
+                return Err(Failure::UnknownOption(word.clone()?));
+            }
+            text => plain.push(text)?,
         }
     }
-    None
+    Ok(plain)
 }
 
 // What the words ask for: help wherever it is asked, or a family and a file.
 pub fn parse(heap: Global, words: &[String]) -> Result<Command<'_>, Failure> {
-    if asks_help(words) {
+    if has_word(words, "--help") || has_word(words, "-h") {
         return Ok(Command::Help);
     }
-    if let Some(word) = first_option(words) {
-        return Err(Failure::UnknownOption(String::from_str(heap, word)?));
-    }
-    let [word, rest @ ..] = words else {
+    let plain = plain_words(heap, words)?;
+    let [word, rest @ ..] = plain.as_slice() else {
         return Err(Failure::NoFamily);
     };
-    let Some(family) = family_named(word.as_str()) else {
-        return Err(Failure::UnknownFamily(word.clone()?));
+    let Some(family) = family_named(word) else {
+        return Err(Failure::UnknownFamily(String::from_str(heap, word)?));
     };
     match rest {
         [] => Err(Failure::NoFile),
         [path] => Ok(Command::Log(Recording {
             family,
-            path: path.as_str(),
+            path,
+            datagrams: has_word(words, "--datagrams"),
+            frames: has_word(words, "--frames"),
         })),
-        [_, word, ..] => Err(Failure::WordTooMany(word.clone()?)),
+        [_, word, ..] => Err(Failure::WordTooMany(String::from_str(heap, word)?)),
     }
 }

@@ -20,5 +20,7 @@ returns c =
             least = refl;
             most = refl;
             minus-one = refl;
+            opened = refl;
+            metered = refl;
           };
     }
