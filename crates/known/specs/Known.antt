@@ -1,9 +1,11 @@
--- Streams, words and lines whose results are known beforehand.
+-- Streams, words, lines and fields whose results are known beforehand.
 use mathlib.Core.List.{List, [], _∷_, _++_}
 use mathlib.Core.Path.{_≡_}
 use Prim.Native.Nat.{ℕ}
 use lib.IntN.{pos, negsuc}
 use lib.ListN.{replicate, take}
+use Rattle.std.specs.declared.option.Option.the-variants.{Some}
+use Rattle.std.specs.declared.result.Result.the-variants.{Ok, Err}
 use Rattle.reading.specs.declared.message.Kind.{Kind}
 use Rattle.reading.specs.declared.message.Kind.the-variants.{Inertial, Solution, Status, Passed, Fault}
 use Rattle.reading.specs.declared.message.Message.{Message}
@@ -11,8 +13,12 @@ use Rattle.reading.specs.Reading.{Model, reading}
 use Rattle.reading.specs.declared.counts.Counts.{Counts}
 use Rattle.reader.specs.Standing.{counts-of}
 use Rattle.line.specs.Lines.{contents}
+use Rattle.oxts.specs.declared.format.Format.the-variants.{Ncom, Mcom}
 use Rattle.oxts.specs.Words.{signed24}
+use Rattle.oxts_fields.specs.declared.refusal.Refusal.the-variants.{NotValid}
+use Rattle.oxts_fields.specs.Fields.{field-asked}
 use Rattle.oxts_record.specs.Families.{ncom-model, mcom-model}
+use Rattle.oxts_record.specs.Questions.{time-from}
 
 -- a message whose quantities are all 0: kind, number, place and code
 abbrev pub blank : Kind → ℕ → ℕ → ℕ → Message
@@ -63,3 +69,12 @@ pub record Known : Type 0 where
   -- what an opener lets through, and a meter with a credit of 2 over it
   pub opened : contents 0 carried ≡ 170 ∷ 187 ∷ 204 ∷ []
   pub metered : take 2 (contents 0 carried) ≡ 170 ∷ 187 ∷ []
+  -- the offset of UTC in channel 16 is valid where bit 0 is set, and signed
+  pub offset : field-asked Ncom 16 4 (Some (replicate 7 0 ++ (225 ∷ []))) ≡ Ok (negsuc 15)
+  pub no-offset : field-asked Ncom 16 4 (Some (replicate 7 0 ++ (224 ∷ []))) ≡ Err NotValid
+  -- the undulation in channel 48 is signed, and its pattern 0xFFFF is not valid
+  pub undulation : field-asked Mcom 48 0 (Some (254 ∷ 255 ∷ replicate 6 0)) ≡ Ok (negsuc 1)
+  pub no-undulation : field-asked Mcom 48 0 (Some (255 ∷ 255 ∷ replicate 6 0)) ≡ Err NotValid
+  -- minutes 1,000 with time 59,999, and minutes 999
+  pub full-time : time-from 1000 4 (Some 59999) ≡ Ok 60059999
+  pub no-full-time : time-from 999 4 (Some 59999) ≡ Err NotValid

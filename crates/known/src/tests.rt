@@ -1,4 +1,5 @@
-// The code on words, statuses, streams and packets whose results are known, and on piles of lines.
+// The code on words, statuses, streams and packets whose results are known, on piles of lines, and on fields.
+mod fields;
 mod piles;
 
 use crate::packets::packet;

@@ -1,5 +1,7 @@
 // The packet families NCOM and MCOM: the verdicts and hints of a format, and a record of their own.
+ghost use Rattle.oxts.specs.declared.format.Format.the-variants.{Ncom as ncom-format, Mcom as mcom-format};
 ghost use Rattle.oxts_record.specs.Families.{ncom-model, mcom-model, ncom-laws, mcom-laws};
+use crate::record::Marker;
 use crate::record::Record;
 use oxts::format::Format;
 use oxts_judge::hints;
@@ -12,6 +14,22 @@ pub struct Ncom;
 
 #[derive(Clone, Copy)]
 pub struct Mcom;
+
+pub impl Marker for Ncom as NcomMarker {
+    ghost format = { ncom-format };
+
+    fn format() -> Format {
+        Format::Ncom
+    }
+}
+
+pub impl Marker for Mcom as McomMarker {
+    ghost format = { mcom-format };
+
+    fn format() -> Format {
+        Format::Mcom
+    }
+}
 
 pub impl Family for Ncom as NcomFamily {
     const LONGEST: usize = 72;

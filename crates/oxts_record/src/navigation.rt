@@ -4,12 +4,15 @@ ghost use Prim.Native.Nat.{_<_};
 ghost use Rattle.oxts.specs.Status.{is-structure-a};
 ghost use Rattle.oxts_record.specs.ChannelSets.{members};
 ghost use Rattle.oxts_record.specs.Navigations.{first-navigation, batch-at, channel-taken, navigation-after, channel-of};
+ghost use Rattle.oxts_record.specs.Questions.{minutes-in, time-from, field-of, full-time-of};
 use crate::channel_set::ChannelSet;
 use crate::snapshot::Snapshot;
 use oxts::format::Format;
 use oxts::status::Structure;
 use oxts::status::structure_of;
 use oxts::words::byte_at;
+use oxts_fields::ask;
+use oxts_fields::refusal::Refusal;
 
 #[derive(Clone, Copy)]
 pub struct Navigation {
@@ -42,6 +45,26 @@ fn batch_at(packet: &[u8], at: usize) -> [u8; 8]
         byte_at(packet, at + 7),
         byte_at(packet, at + 8),
     ]
+}
+
+// The minutes of channel 0, as the pattern of a signed number of 32 bits.
+fn minutes_in(bytes: [u8; 8]) -> u32
+    ensures value { λ r. ⌜ r ≡ minutes-in bytes ⌝ }
+{
+    let [a, b, c, d, ..] = bytes;
+    u32::from_le_bytes([a, b, c, d])
+}
+
+// The full time of so many minutes and the latest status and time. A pattern above the largest positive number is that of a negative one.
+fn time_from(minutes: u32, status: u8, time: Option<u16>) -> Result<u64, Refusal>
+    ensures value { λ r. ⌜ r ≡ time-from minutes status time ⌝ }
+{
+    match time {
+        Some(time) if minutes >= 1000 && minutes <= 0x7FFF_FFFF && status > 1 && time <= 59_999 => {
+            Ok(minutes as u64 * 60_000 + time as u64)
+        }
+        _ => Err(Refusal::NotValid),
+    }
 }
 
 impl Navigation {
@@ -98,6 +121,25 @@ impl Navigation {
             Some(self.channels[channel as usize])
         } else {
             None
+        }
+    }
+
+    pub fn field(&self, format: Format, channel: u32, number: u32) -> Result<i64, Refusal>
+        ensures value { λ r. ⌜ r ≡ field-of format (now (self .entry)) channel number ⌝ }
+    {
+        let heard = match u8::try_from(channel) {
+            Ok(channel) => self.channel(channel),
+            Err(_) => None,
+        };
+        ask::field(format, channel, number, heard)
+    }
+
+    pub fn full_time(&self) -> Result<u64, Refusal>
+        ensures value { λ r. ⌜ r ≡ full-time-of (now (self .entry)) ⌝ }
+    {
+        match self.channel(0) {
+            Some(bytes) => time_from(minutes_in(bytes), self.latest.status, self.latest.time),
+            None => Err(Refusal::NotHeard),
         }
     }
 }

@@ -1,10 +1,11 @@
 use mathlib.Core.Path.{refl}
 use Rattle.reading.specs.Reading.{judged, read, reading}
+use Rattle.oxts_fields.specs.Table.{field-table}
 use Rattle.oxts_judge.specs.Bodies.{inertial-body, solution-body, status-body, passed-body}
 use Rattle.known.proofs.results.known_results.Needs as need
 
 pub returns : need.returns
-unfolding judged read reading inertial-body solution-body status-body passed-body
+unfolding field-table judged read reading inertial-body solution-body status-body passed-body
 returns c =
     record {
       known =
@@ -22,5 +23,11 @@ returns c =
             minus-one = refl;
             opened = refl;
             metered = refl;
+            offset = refl;
+            no-offset = refl;
+            undulation = refl;
+            no-undulation = refl;
+            full-time = refl;
+            no-full-time = refl;
           };
     }

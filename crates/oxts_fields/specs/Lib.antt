@@ -1,0 +1,3 @@
+pub mod Refusals
+pub mod Table
+pub mod Fields
