@@ -1,11 +1,9 @@
 -- How the records in memory are read one by one.
 use mathlib.Core.Path.{_≡_, refl, sym, ap, _∙_}
-use mathlib.Core.Bool.{true, false, cond}
 use mathlib.Core.List.{List, [], _∷_, _++_, append-assoc}
 use Prim.Native.Nat.{ℕ, zero, suc, _+_, _-_, _*_, _/_, _%_, _≤_, _<_}
 use native.Mathlib.Omega.{arith}
 use denote.Ref.{RefT}
-use lib.Dec.{leb}
 use lib.ListN.{length, getD, take, drop, length-drop, length-append}
 use lib.Seq.{take-at, drop-at}
 use Rattle.std.specs.Joined.{joined}
@@ -13,7 +11,7 @@ use Rattle.std.proofs.shelf.Tests.{le-leb, lt-leb, cond-true, cond-false}
 use Rattle.std.specs.declared.option.Option.{Option}
 use Rattle.std.specs.declared.option.Option.the-variants.{Some, None}
 use Rattle.std.specs.Options.{Cases}
-use Rattle.line.specs.Datagrams.{records, span, next, encoded, Cut, Bytes, Written-and-read}
+use Rattle.line.specs.Datagrams.{records, next, encoded, Cut}
 
 -- skipping bytes is dropping them
 pub records-skip : (skip : ℕ) (m : List ℕ) → records skip m ≡ records 0 (drop skip m)

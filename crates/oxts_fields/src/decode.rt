@@ -1,7 +1,6 @@
 // One decoder for every field: its bits, its value, and whether it is valid.
 ghost use mathlib.Core.Path.{_≡_};
 ghost use Prim.Native.Nat.{_+_, _<_};
-ghost use lib.ListN.{getD};
 ghost use Rattle.oxts.specs.Words.{unsigned16At, unsigned32At};
 ghost use Rattle.oxts_fields.specs.Fields.{pattern-of, value-of, valid-by, field-value as value-in};
 use crate::layout::Form;

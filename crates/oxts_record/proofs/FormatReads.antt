@@ -8,7 +8,6 @@ use Rattle.reading.specs.declared.message.Body.{Body}
 use Rattle.reading.specs.Keeps.{Each, Found, Keeps, record-of}
 use Rattle.reading.specs.Reading.{Packet, reading}
 use Rattle.oxts.specs.declared.format.Format.{Format}
-use Rattle.oxts_judge.specs.Bodies.{status-body, passed-body}
 use Rattle.oxts_judge.specs.Lawful.{oxts-in-turn}
 use Rattle.oxts_judge.specs.Models.{oxts-model}
 use Rattle.oxts_judge.specs.Packets.{StructureAPacket, StructureBPacket, Begins, Accepts-packets}

@@ -1,20 +1,19 @@
 -- One step after another, and what a byte more does.
 use mathlib.Core.Path.{_≡_, refl, sym, ap, subst, _∙_}
 use mathlib.Core.List.{List, [], _∷_, _++_, append-assoc}
-use Prim.Native.Nat.{ℕ, zero, suc, _+_, _-_, _≤_, _<_, _^_}
+use Prim.Native.Nat.{ℕ, _+_, _-_, _≤_, _<_}
 use native.Mathlib.Omega.{arith}
-use lib.ListN.{length, take, drop, length-append, length-drop}
-use mathlib.Core.Logic.{_⊎_, inl, inr, ⊎-elim}
+use lib.ListN.{length, drop, length-append, length-drop}
 use Rattle.std.specs.declared.option.Option.the-variants.{None}
 use Rattle.std.proofs.shelf.Lists.{append-nil, take-at}
 use Rattle.reading.specs.declared.message.Message.{Message}
 use Rattle.reader.specs.declared.ledger.Ledger.{Ledger}
 use Rattle.reader.specs.declared.window.Window.{Window}
 use Rattle.reader.specs.declared.reader.Reader.{Reader}
-use Rattle.reading.specs.Reading.{Model, Laws, Tally, Reading, reading, read, resumed, Waits}
+use Rattle.reading.specs.Reading.{Model, Laws, reading, read, resumed, Waits}
 use Rattle.reader.specs.Held.{bytes}
 use Rattle.reader.specs.Ledgers.{Agrees, Handed}
-use Rattle.reader.specs.Progress.{Moved, Moves, Bounds}
+use Rattle.reader.specs.Progress.{Moved, Moves}
 use Rattle.reader.specs.Standing.{Stands, News}
 use Rattle.reader.specs.Standing.{Ran}
 use Rattle.reading.proofs.Steps.{stop, resumed-ends, reading-more}

@@ -1,15 +1,13 @@
 -- What one verdict does to the ledger, the window and the sink is what it does to the reading.
 use mathlib.Core.Path.{_≡_, refl, sym, ap, subst, _∙_}
 use mathlib.Core.Bool.{Bool, true, false, cond}
-use mathlib.Core.List.{List, [], _∷_, _++_, append-assoc}
-use Prim.Native.Nat.{ℕ, zero, suc, _+_, _*_, _-_, _≤_, _<_, _^_}
+use mathlib.Core.List.{List, [], _∷_, _++_}
+use Prim.Native.Nat.{ℕ, zero, suc, _+_, _*_, _-_, _≤_, _<_}
 use native.Mathlib.Nat.{add-zero}
-use native.Mathlib.Numerals.{add-one}
 use native.Mathlib.Omega.{arith}
 use lib.Dec.{eqb}
-use lib.ListN.{length, take, drop, length-append, length-drop, length-take}
-use Rattle.std.specs.declared.option.Option.{Option}
-use Rattle.std.specs.declared.option.Option.the-variants.{Some, None}
+use lib.ListN.{length, take, drop, length-drop}
+use Rattle.std.specs.declared.option.Option.the-variants.{Some}
 use Rattle.std.proofs.shelf.Lists.{append-nil, length-push, length-take-le, drop-drop}
 use Rattle.reading.specs.declared.message.Body.{Body}
 use Rattle.reading.specs.declared.message.Defect.{Defect}
@@ -19,8 +17,8 @@ use Rattle.reading.specs.declared.message.Verdict.the-variants.{Wait, Early, Fa
 use Rattle.reader.specs.declared.ledger.Ledger.{Ledger}
 use Rattle.reading.specs.Reading.{Model, Tally, told, faulted, completed, body-message, fault-message, passed-over, is-passed, ruled, resumed, Waits, Quiet}
 use Rattle.reader.specs.Ledgers.{message-of, after-telling, after-quiet, fault-body, after-fault, after-packet, latest-of, Agrees, Handed}
-use Rattle.reader.specs.Progress.{Moved, Moves, Bounds}
-use Rattle.reading.proofs.Steps.{resumed-step, resumed-ends}
+use Rattle.reader.specs.Progress.{Moves, Bounds}
+use Rattle.reading.proofs.Steps.{resumed-step}
 use Rattle.reading.proofs.Jumps.{jumped, quieted}
 
 latest-push : (xs : List Message) (x : Message) → latest-of (xs ++ x ∷ []) ≡ Some x

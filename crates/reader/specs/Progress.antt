@@ -1,10 +1,10 @@
 -- How the work at a place goes on.
 use mathlib.Core.Path.{_≡_}
-use mathlib.Core.List.{List, [], _∷_, _++_}
-use Prim.Native.Nat.{ℕ, _+_, _*_, _-_, _≤_, _<_, _^_}
+use mathlib.Core.List.{List, _++_}
+use Prim.Native.Nat.{ℕ, _+_, _*_, _≤_, _^_}
 use Rattle.reading.specs.declared.message.Message.{Message}
 use Rattle.reader.specs.declared.ledger.Ledger.{Ledger}
-use Rattle.reading.specs.Reading.{Model, Tally, Reading, resumed}
+use Rattle.reading.specs.Reading.{Model, Tally, resumed}
 use Rattle.reader.specs.Ledgers.{Agrees, Handed}
 
 -- From the tally t, with n prefixes of `rest` judged, to n′ of rest′: the reading that is left is the same, and the sink was handed what was told.

@@ -9,7 +9,7 @@ use Rattle.reading.specs.declared.counts.Counts.{Counts}
 use Rattle.reading.specs.declared.refusal.Refusal.{Refusal}
 use Rattle.reading.specs.declared.message.Message.{Message}
 use Rattle.reader.specs.declared.reader.Reader.{Reader}
-use Rattle.reading.specs.Reading.{Model, Reading, reading}
+use Rattle.reading.specs.Reading.{Model, reading}
 use Rattle.reader.specs.Held.{bytes}
 use Rattle.reader.specs.Ledgers.{Agrees, Handed}
 

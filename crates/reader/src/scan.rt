@@ -1,7 +1,7 @@
 // The prefixes at a place are judged, place after place.
 ghost use mathlib.Core.Path.{_≡_};
-ghost use mathlib.Core.List.{List, []};
-ghost use Prim.Native.Nat.{ℕ, _+_, _*_, _-_, _<_, _≤_, _^_};
+ghost use mathlib.Core.List.{[]};
+ghost use Prim.Native.Nat.{_+_, _*_, _-_, _<_, _≤_, _^_};
 ghost use lib.ListN.{length, take, drop};
 ghost use Rattle.reader.specs.Ledgers.{after-quiet};
 ghost use Rattle.reader.specs.Progress.{Moves, Bounds};

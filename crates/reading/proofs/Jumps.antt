@@ -1,18 +1,18 @@
 -- Lengths that are judged to wait do not move the reading, and bytes at fault alone are silent steps of it.
-use mathlib.Core.Path.{_≡_, refl, sym, ap, subst, _∙_}
-use mathlib.Core.Bool.{Bool, true, false}
-use mathlib.Core.List.{List, [], _∷_, _++_}
-use mathlib.Core.Logic.{_⊎_, inl, inr, ⊎-elim}
+use mathlib.Core.Path.{_≡_, refl, sym, ap, _∙_}
+use mathlib.Core.Bool.{true, false}
+use mathlib.Core.List.{List, [], _∷_}
+use mathlib.Core.Logic.{⊎-elim}
 use Prim.Native.Nat.{ℕ, zero, suc, _+_, _-_, _≤_, _<_}
-use native.Mathlib.Nat.{add-zero, add-suc, suc-add}
+use native.Mathlib.Nat.{add-zero}
 use native.Mathlib.Omega.{arith}
-use lib.ListN.{length, take, drop, getD}
-use Rattle.std.proofs.shelf.Lists.{append-nil, length-take-le, take-take, drop-drop}
+use lib.ListN.{length, take, drop}
+use Rattle.std.proofs.shelf.Lists.{append-nil, length-take-le, take-take}
 use Rattle.std.proofs.shelf.Tests.{cases-lt, both-ways}
 use Rattle.reading.specs.declared.message.Defect.{Defect}
 use Rattle.reading.specs.declared.message.Verdict.{Verdict}
 use Rattle.reading.specs.declared.message.Verdict.the-variants.{Wait, Early, Fault, Whole}
-use Rattle.reading.specs.Reading.{Model, Tally, Reading, faulted, passed-over, ruled, resumed, Waits, Quiet, at-fault}
+use Rattle.reading.specs.Reading.{Model, Tally, faulted, passed-over, resumed, Waits, Quiet, at-fault}
 use Rattle.reading.proofs.Steps.{resumed-step, resumed-ends}
 
 module _ {R : Type 0} (m : Model R) where

@@ -3,7 +3,7 @@ use mathlib.Core.Path.{_≡_, refl, sym, ap, _∙_}
 use mathlib.Core.Bool.{false}
 use mathlib.Core.List.{List}
 use mathlib.Core.Logic.{_⊎_, inl, inr, ⊎-elim}
-use Prim.Native.Nat.{ℕ, zero, suc, _-_, _≤_, _<_}
+use Prim.Native.Nat.{ℕ, zero, suc, _-_, _≤_}
 use native.Mathlib.Omega.{arith}
 use lib.ListN.{length, take, drop}
 use Rattle.std.proofs.shelf.Tests.{true≢false}
@@ -12,7 +12,7 @@ use Rattle.reading.specs.declared.message.Defect.{Defect}
 use Rattle.reading.specs.declared.message.Verdict.{Verdict}
 use Rattle.reading.specs.declared.message.Verdict.the-variants.{Wait, Early, Fault, Whole}
 use Rattle.reading.specs.Reading.{Model, Tally, faulted, completed, reading, resumed, ruled, decided, Open}
-use Rattle.reading.specs.Rules.{Holds, Skips, Accepts, from, hear, heard, Rules}
+use Rattle.reading.specs.Rules.{Skips, Accepts, from, hear, heard, Rules}
 use Rattle.reading.proofs.Opens.{open-more, open-none}
 use Rattle.reading.proofs.Steps.{resumed-start, resumed-step, resumed-ends}
 

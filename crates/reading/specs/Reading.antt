@@ -6,8 +6,6 @@ use Prim.Native.Nat.{ℕ, zero, suc, _+_, _-_, _≤_, _<_}
 use lib.ListN.{length, take, drop, replicate, getD}
 use lib.IntN.{ℤ, pos}
 use lib.Dec.{eqb}
-use Rattle.std.specs.declared.option.Option.{Option}
-use Rattle.std.specs.declared.option.Option.the-variants.{Some, None}
 use Rattle.reading.specs.declared.message.Kind.{Kind}
 use Rattle.reading.specs.declared.message.Kind.the-variants.{Inertial, Solution, Status, Passed, Fault as FaultKind}
 use Rattle.reading.specs.declared.message.Body.{Body}

@@ -1,7 +1,7 @@
 // Feeding a reader: block after block goes behind what is held, and all that can be judged is judged.
 ghost use mathlib.Core.Path.{_≡_};
-ghost use mathlib.Core.List.{List, [], _∷_, _++_};
-ghost use Prim.Native.Nat.{ℕ, _+_, _*_, _-_, _<_, _≤_, _^_};
+ghost use mathlib.Core.List.{[]};
+ghost use Prim.Native.Nat.{_+_, _-_, _<_, _≤_, _^_};
 ghost use lib.ListN.{length};
 ghost use Rattle.reader.specs.Held.{bytes};
 ghost use Rattle.reader.specs.Progress.{Bounds};

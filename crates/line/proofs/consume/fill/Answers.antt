@@ -1,9 +1,7 @@
-use mathlib.Core.Path.{_≡_, refl, ap, subst, _∙_}
-use native.Mathlib.Nat.{add-zero}
-use Prim.Native.Nat.{_<_, _-_, _+_}
+use mathlib.Core.Path.{_≡_, refl, subst}
+use Prim.Native.Nat.{_+_}
 use native.Mathlib.Omega.{arith}
-use lib.ListN.{length, take, drop, length-take, length-drop}
-use Rattle.line.proofs.Takes.{more, dry, done}
+use Rattle.line.proofs.Takes.{more, done}
 use Rattle.line.proofs.consume.fill.Needs as need
 
 pub loop-done-again : need.loop-done-again

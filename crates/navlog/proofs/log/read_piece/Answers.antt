@@ -1,6 +1,5 @@
 use mathlib.Core.Path.{sym, ap, _∙_}
 use mathlib.Core.List.{_++_}
-use Rattle.std.specs.Of.Vec.{vec-items}
 use Rattle.reading.specs.Reading.{reading}
 use Rattle.navlog.proofs.Gathered.{gathered}
 use Rattle.navlog.proofs.log.read_piece.Needs as need

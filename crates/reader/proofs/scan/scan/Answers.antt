@@ -1,7 +1,6 @@
-use mathlib.Core.Path.{_≡_, refl, _∙_, subst}
+use mathlib.Core.Path.{_∙_}
 use native.Mathlib.Omega.{arith}
-use lib.ListN.{length, drop, length-drop}
-use Rattle.reader.specs.Progress.{Moves, Bounds}
+use lib.ListN.{drop, length-drop}
 use Rattle.reader.proofs.Feeding.{moves-none, moves-both, moves-end}
 use Rattle.reader.proofs.scan.scan.Needs as need
 

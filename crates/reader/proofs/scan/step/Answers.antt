@@ -1,7 +1,6 @@
-use mathlib.Core.Path.{_≡_, sym, ap, subst, _∙_}
+use mathlib.Core.Path.{sym, ap, subst, _∙_}
 use Prim.Native.Nat.{_<_}
 use native.Mathlib.Omega.{arith}
-use lib.ListN.{length, take, drop}
 use Rattle.reading.specs.Reading.{Waits}
 use Rattle.reader.proofs.Moves.{stepped-wait, stepped-early, stepped-fault, stepped-whole}
 use Rattle.reader.proofs.scan.step.Needs as need
