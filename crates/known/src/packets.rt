@@ -35,7 +35,12 @@ pub fn packet(status: u8, channel: u8, value: u8) -> [u8; 72] {
     bytes[43] = value;
     bytes[62] = channel;
     bytes[63] = value;
-    if status != 11 {
+    sealed(bytes)
+}
+
+// The packet with its checksums set.
+pub fn sealed(mut bytes: [u8; 72]) -> [u8; 72] {
+    if bytes[21] != 11 {
         bytes[22] = sum(&bytes[1..22]);
         bytes[61] = sum(&bytes[1..61]);
     }

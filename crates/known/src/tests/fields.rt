@@ -1,6 +1,7 @@
 // Fields on both sides of each validity rule's edge, and full time.
 use crate::packets::packet;
 use crate::packets::read_packets;
+use crate::packets::sealed;
 use oxts::format::Format;
 use oxts_fields::ask::field;
 use oxts_fields::refusal::Refusal;
@@ -95,6 +96,10 @@ fn the_formats_differ_in_40_and_41() -> Result<(), Fail> {
     )?;
     check_eq(asked(Format::Mcom, 41, 4, [0, 0, 0, 0, 254, 0, 0, 0]), 254)?;
     check_eq(
+        asked(Format::Mcom, 41, 4, [0, 0, 0, 0, 255, 0, 0, 0]),
+        INVALID,
+    )?;
+    check_eq(
         asked(Format::Ncom, 41, 4, [0, 0, 0, 0, 254, 0, 0, 0]),
         -1010,
     )?;
@@ -109,5 +114,18 @@ fn full_time_needs_channel_0_and_a_status() -> Result<(), Fail> {
     check(matches!(reader.record().field(13, 0), Ok(40)))?;
     check(matches!(reader.record().field(14, 0), Err(Refusal::NotHeard)))?;
     let reader = read_packets(&[packet(4, 0, 40)])?;
+    check(matches!(reader.record().full_time(), Err(Refusal::NotValid)))
+}
+
+// Minutes 1,000 and 999, with times of 232 and 231 milliseconds.
+#[test]
+fn full_time_from_a_thousand_minutes_on() -> Result<(), Fail> {
+    let mut enough = packet(4, 0, 0xE8);
+    enough[64] = 3;
+    let reader = read_packets(&[sealed(enough)])?;
+    check(matches!(reader.record().full_time(), Ok(60_000_232)))?;
+    let mut few = packet(4, 0, 0xE7);
+    few[64] = 3;
+    let reader = read_packets(&[sealed(few)])?;
     check(matches!(reader.record().full_time(), Err(Refusal::NotValid)))
 }
