@@ -22,7 +22,7 @@ use Rattle.gateway.specs.declared.gateway.Gateway.{Gateway}
 use Rattle.gateway.specs.declared.refusal.PumpRefusal.{PumpRefusal}
 use Rattle.gateway.specs.declared.refusal.PumpRefusal.TheVariants.{BadLimit, PastMost}
 use Rattle.gateway.specs.Passing.{Drawn, pump_number, pump_result, passed_by, PumpNames}
-use Rattle.gateway.specs.Standing.{Represents, Goes_on, Shows, showing}
+use Rattle.gateway.specs.Standing.{Represents, GoesOn, Shows, showing}
 use Rattle.gateway.proofs.Pumping.{Going, going_more, going_dry}
 
 -- A bank that was handed messages has them published to its ports.
@@ -70,7 +70,7 @@ module _ {R : Type 0} (model : Model R) (laws : Laws model) where
     state_of g h = record { bytes = pumped h; slots = slots_of g.bank }
 
     pub goes_pump : (g g' : Gateway F R) (limit : ℕ) (W rest : List ℕ) (d : ℕ) → 0 < limit → limit ≤ 4096 → g.reader.pumped + limit ≤ 2 ^ 40 → d ≡ min limit (length W) → rest ≡ drop d W →
-        Ran model Took g.reader g.bank (take d W) g'.reader g'.bank → Goes_on model g g' (Pump limit W) (passed d rest)
+        Ran model Took g.reader g.bank (take d W) g'.reader g'.bank → GoesOn model g g' (Pump limit W) (passed d rest)
     goes_pump g g' limit W rest d some most room d-is rest-is ran h rep =
         let bs = pumped h in
         let xs = take d W in
@@ -91,7 +91,7 @@ module _ {R : Type 0} (model : Model R) (laws : Laws model) where
           run = subst (λ ss. Reached model (record { bytes = bs ++ xs; slots = ss }) (called h (Pump limit W) (passed d rest))) slots-are on;
         }
 
-    pub goes_refused : (g : Gateway F R) (limit : ℕ) (W : List ℕ) (n : ℕ) → refused n ≡ pump_answer g.reader.pumped limit W → Goes_on model g g (Pump limit W) (refused n)
+    pub goes_refused : (g : Gateway F R) (limit : ℕ) (W : List ℕ) (n : ℕ) → refused n ≡ pump_answer g.reader.pumped limit W → GoesOn model g g (Pump limit W) (refused n)
     goes_refused g limit W n e h rep =
         let bs = pumped h in
         let answer-is : refused n ≡ pump_answer (length bs) limit W = e ∙ ap (λ k. pump_answer k limit W) rep.reads.pumped in
@@ -104,7 +104,7 @@ module _ {R : Type 0} (model : Model R) (laws : Laws model) where
         }
 
     pub goes_port : (g g' : Gateway F R) (p : ℕ) (c : PortCall) (a : Answer) → a ≡ port_answer (slots_of g.bank) p c → slots_of g'.bank ≡ port_after (slots_of g.bank) p c →
-        g'.reader ≡ g.reader → Goes_on model g g' (At p c) a
+        g'.reader ≡ g.reader → GoesOn model g g' (At p c) a
     goes_port g g' p c a answered changed kept h rep =
         record {
           reads = subst (λ r. Stands model r (pumped h)) (sym kept) rep.reads;
@@ -147,7 +147,7 @@ module _ {R : Type 0} (model : Model R) (laws : Laws model) where
           names : PumpNames limit r;
           refused : Unchanged r g g';
           line : Unchanged r l l';
-          run : Goes_on model g g' (Pump limit (waiting l)) (pump_result r (waiting l'));
+          run : GoesOn model g g' (Pump limit (waiting l)) (pump_result r (waiting l'));
         }
 
     module _ {L : Type 0} (waiting : L → List ℕ) (steps : L → ℕ → L → Type 0) (joins : Joins steps) (g : Gateway F R) (l : L) (limit : ℕ) where

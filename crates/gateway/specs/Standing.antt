@@ -15,8 +15,8 @@ pub record Represents {F R : Type 0} (model : Model R) (g : Gateway F R) (h : Hi
   pub run : Reached model (record { bytes = pumped h; slots = slots_of g.bank }) h
 
 -- The call c, with the answer a, has made g' of the gateway g.
-abbrev pub Goes_on : {F R : Type 0} → Model R → (g g' : Gateway F R) → Call → Answer → Type 0
-Goes_on {F} {R} model g g' c a = (h : History R) → Represents model g h → Represents model g' (called h c a)
+abbrev pub GoesOn : {F R : Type 0} → Model R → (g g' : Gateway F R) → Call → Answer → Type 0
+GoesOn {F} {R} model g g' c a = (h : History R) → Represents model g h → Represents model g' (called h c a)
 
 -- The gateway g was asked the question q, and showed s.
 abbrev pub Shows : {F R : Type 0} → Model R → Gateway F R → Question → Shown R → Type 0

@@ -28,7 +28,7 @@ fn read_piece<F: Family>(
     piece: &[u8],
     inbox: &mut Inbox,
 ) -> Result<(), Failure>
-    ensures read { OnOk result (PieceRead model reader.old piece.now reader.new inbox.new) }
+    ensures read { OnOk result (PieceRead F.model reader.old piece.now reader.new inbox.new) }
 {
     inbox.messages.clear();
     inbox.lost = false;

@@ -31,7 +31,7 @@ pub fn relay<F: Family, L: Line>(
     line: &mut L,
     port: u32,
 ) -> Result<Message, TakeRefusal>
-    ensures relayed { Relayed model gateway.old (waiting line.old) port (take_answer result) gateway.new }
+    ensures relayed { Relayed F.model gateway.old (L.waiting line.old) port (take_answer result) gateway.new }
 {
     let _ = gateway.pump(line, 64);
     gateway.take(port)

@@ -69,7 +69,7 @@ impl<R> Ledger<R> {
         requires number { self.old.messages + 1 < 2 ^ 64 }
         requires place { self.old.accepted + self.old.skipped < 2 ^ 64 }
         ensures ledger { self.new ≡ after_telling self.old body }
-        ensures sink { took sink.old (message_of self.old body) sink.new }
+        ensures sink { S.took sink.old (message_of self.old body) sink.new }
     {
         let quantities = body.quantities;
         let message = Message {
@@ -98,7 +98,7 @@ impl<R> Ledger<R> {
         requires place { self.old.accepted + self.old.skipped + 1 < 2 ^ 64 }
         requires faults { self.old.faults + 1 < 2 ^ 64 }
         ensures ledger { self.new ≡ after_fault n self.old defect }
-        ensures sink { Handed took sink.old (if nat_eq n 1 then [] else message_of self.old (fault_body defect) ∷ []) sink.new }
+        ensures sink { Handed S.took sink.old (if nat_eq n 1 then [] else message_of self.old (fault_body defect) ∷ []) sink.new }
     {
         if n != 1 {
             self.tell(fault_body(defect), sink);
@@ -114,7 +114,7 @@ impl<R> Ledger<R> {
         requires whole { self.old.whole + 1 < 2 ^ 64 }
         requires passed { self.old.passed + 1 < 2 ^ 64 }
         ensures ledger { self.new ≡ after_packet n self.old body }
-        ensures sink { took sink.old (message_of self.old body) sink.new }
+        ensures sink { S.took sink.old (message_of self.old body) sink.new }
     {
         self.tell(body, sink);
         self.accepted += n as u64;

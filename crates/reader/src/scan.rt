@@ -31,9 +31,9 @@ fn pass_quiet<F: Family>(bytes: &[u8], place: usize, ledger: &mut Ledger<F::Reco
     ensures on { place ≤ result.place }
     ensures within { result.place ≤ length bytes.now }
     ensures ledger { ledger.new ≡ after_quiet (result.place - place) ledger.old }
-    ensures quiet { Quiet model (drop place bytes.now) (result.place - place) }
+    ensures quiet { Quiet F.model (drop place bytes.now) (result.place - place) }
     ensures some { 1 ≤ result.next }
-    ensures waits { Waits model [] result.next }
+    ensures waits { Waits F.model [] result.next }
 {
     let n = F::quiet(&bytes[place..]);
     ledger.pass_over(n);
@@ -59,7 +59,7 @@ fn step<F: Family, S: Sink>(
     ensures bounds { Bounds ledger.new (length bytes.now - result.place) (result.next - 1) }
     ensures all { ledger.new.accepted + ledger.new.skipped + (length bytes.now - result.place) ≡ ledger.old.accepted + ledger.old.skipped + (length bytes.now - cursor.place) }
     ensures falls { 4098 * (length bytes.now - result.place) + (4097 - result.next) < 4098 * (length bytes.now - cursor.place) + (4097 - cursor.next) }
-    ensures moves { Moves model took ledger.old (drop cursor.place bytes.now) (cursor.next - 1) sink.old ledger.new (drop result.place bytes.now) (result.next - 1) sink.new }
+    ensures moves { Moves F.model S.took ledger.old (drop cursor.place bytes.now) (cursor.next - 1) sink.old ledger.new (drop result.place bytes.now) (result.next - 1) sink.new }
 {
     let place = cursor.place;
     let n = cursor.next;
@@ -100,7 +100,7 @@ pub(crate) fn scan<F: Family, S: Sink>(
     ensures within { result ≤ length bytes.now }
     ensures bounds { Bounds ledger.new (length bytes.now - result) (length bytes.now - result) }
     ensures all { ledger.new.accepted + ledger.new.skipped + (length bytes.now - result) ≡ ledger.old.accepted + ledger.old.skipped + length bytes.now }
-    ensures moves { Moves model took ledger.old bytes.now (next - 1) sink.old ledger.new (drop result bytes.now) (length bytes.now - result) sink.new }
+    ensures moves { Moves F.model S.took ledger.old bytes.now (next - 1) sink.old ledger.new (drop result bytes.now) (length bytes.now - result) sink.new }
 {
     let mut cursor = Cursor { place: 0, next };
     while cursor.next <= bytes.len() - cursor.place {

@@ -6,10 +6,10 @@ use crate::family::Family;
 
 // At each place the bytes are held, one is skipped, or a packet is accepted.
 pub fn reading_by_rules<F: Family>()
-    ensures rules { Rules model }
+    ensures rules { Rules F.model }
 {}
 
 // Every byte, message and packet is accounted for.
 pub fn reading_keeps<F: Family>()
-    ensures keeps { Keeps model }
+    ensures keeps { Keeps F.model }
 {}

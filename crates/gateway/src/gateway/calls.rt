@@ -5,7 +5,7 @@ ghost use Rattle.law.specs.Calls.PortCall.{Open as AskOpen, Take as AskTake, Mis
 ghost use Rattle.law.specs.Slots.{port_answer, port_after};
 ghost use Rattle.ports.specs.Answers.{open_answer, take_answer, count_answer, OpenNames, TakeNames, PortNames, Unchanged};
 ghost use Rattle.ports.specs.Ports.{slots_of};
-ghost use Rattle.gateway.specs.Standing.{Goes_on};
+ghost use Rattle.gateway.specs.Standing.{GoesOn};
 
 use crate::gateway::Gateway;
 use ports::refusal::{OpenRefusal, PortRefusal, TakeRefusal};
@@ -20,7 +20,7 @@ impl<F: Family> Gateway<F> {
         ensures reader { self.new.reader ≡ self.old.reader }
         ensures names { OpenNames port wanted result }
         ensures refused { Unchanged result self.old self.new }
-        ensures run { Goes_on model self.old self.new (At port (AskOpen wanted)) (open_answer result) }
+        ensures run { GoesOn F.model self.old self.new (At port (AskOpen wanted)) (open_answer result) }
     {
         self.bank.open(port, wanted)
     }
@@ -32,7 +32,7 @@ impl<F: Family> Gateway<F> {
         ensures reader { self.new.reader ≡ self.old.reader }
         ensures names { PortNames port result }
         ensures refused { Unchanged result self.old self.new }
-        ensures run { Goes_on model self.old self.new (At port AskClose) (count_answer result) }
+        ensures run { GoesOn F.model self.old self.new (At port AskClose) (count_answer result) }
     {
         self.bank.close(port)
     }
@@ -44,7 +44,7 @@ impl<F: Family> Gateway<F> {
         ensures reader { self.new.reader ≡ self.old.reader }
         ensures names { TakeNames port result }
         ensures refused { Unchanged result self.old self.new }
-        ensures run { Goes_on model self.old self.new (At port AskTake) (take_answer result) }
+        ensures run { GoesOn F.model self.old self.new (At port AskTake) (take_answer result) }
     {
         self.bank.take(port)
     }
@@ -53,7 +53,7 @@ impl<F: Family> Gateway<F> {
     pub fn missed(&self, port: u32) -> Result<u64, PortRefusal>
         ensures answer { count_answer result ≡ port_answer (slots_of self.now.bank) port AskMissed }
         ensures names { PortNames port result }
-        ensures run { Goes_on model self.now self.now (At port AskMissed) (count_answer result) }
+        ensures run { GoesOn F.model self.now self.now (At port AskMissed) (count_answer result) }
     {
         self.bank.missed(port)
     }

@@ -6,7 +6,7 @@ ghost use Rattle.law.specs.Runs.{start};
 ghost use Rattle.ports.specs.Answers.{Unchanged};
 ghost use Rattle.ports.specs.Ports.{Took};
 ghost use Rattle.gateway.specs.Passing.{Drawn, pump_result, passed_by, PumpNames};
-ghost use Rattle.gateway.specs.Standing.{Represents, Goes_on};
+ghost use Rattle.gateway.specs.Standing.{Represents, GoesOn};
 ghost use Rattle.gateway.specs.Law.{Law};
 
 use crate::gateway::Gateway;
@@ -28,8 +28,8 @@ const CHUNK: usize = 1024;
 impl<F: Family> Gateway<F> {
     // A gateway that has read nothing, with eight closed ports. Every run of it keeps the law.
     pub fn new() -> Gateway<F>
-        ensures start { Represents model result start }
-        ensures law { Law F model }
+        ensures start { Represents F.model result start }
+        ensures law { Law F F.model }
     {
         Gateway {
             reader: Reader::new(),
@@ -40,10 +40,10 @@ impl<F: Family> Gateway<F> {
     // Asks the line once, for at most `most` bytes, and reads what came. There is room for them, so the reader refuses nothing.
     fn draw<L: Line>(&mut self, line: &mut L, most: usize) -> usize
         requires room { self.old.reader.pumped + most ≤ 2 ^ 40 }
-        ensures steps { steps line.old result line.new }
-        ensures drawn { Drawn (waiting line.old) most result (waiting line.new) }
+        ensures steps { L.steps line.old result line.new }
+        ensures drawn { Drawn (L.waiting line.old) most result (L.waiting line.new) }
         ensures pumped { self.new.reader.pumped ≡ self.old.reader.pumped + result }
-        ensures ran { Ran model Took self.old.reader self.old.bank (take result (waiting line.old)) self.new.reader self.new.bank }
+        ensures ran { Ran F.model Took self.old.reader self.old.bank (take result (L.waiting line.old)) self.new.reader self.new.bank }
     {
         let mut buffer = [0; CHUNK];
         let room = most.min(CHUNK);
@@ -54,13 +54,13 @@ impl<F: Family> Gateway<F> {
 
     // Asks the line until `limit` bytes came or nothing waits, and answers how many came. What they bring into the reading is published to the open ports.
     pub fn pump<L: Line>(&mut self, line: &mut L, limit: u32) -> Result<u32, PumpRefusal>
-        ensures answer { pump_result result (waiting line.new) ≡ pump_answer self.old.reader.pumped limit (waiting line.old) }
-        ensures rest { waiting line.new ≡ drop (passed_by result) (waiting line.old) }
-        ensures steps { steps line.old (passed_by result) line.new }
+        ensures answer { pump_result result (L.waiting line.new) ≡ pump_answer self.old.reader.pumped limit (L.waiting line.old) }
+        ensures rest { L.waiting line.new ≡ drop (passed_by result) (L.waiting line.old) }
+        ensures steps { L.steps line.old (passed_by result) line.new }
         ensures names { PumpNames limit result }
         ensures refused { Unchanged result self.old self.new }
         ensures line { Unchanged result line.old line.new }
-        ensures run { Goes_on model self.old self.new (Pump limit (waiting line.old)) (pump_result result (waiting line.new)) }
+        ensures run { GoesOn F.model self.old self.new (Pump limit (L.waiting line.old)) (pump_result result (L.waiting line.new)) }
     {
         if limit == 0 || limit > MOST_LIMIT {
             return Err(PumpRefusal::BadLimit(limit));

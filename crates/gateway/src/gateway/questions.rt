@@ -10,21 +10,21 @@ use reading::message::Message;
 
 impl<F: Family> Gateway<F> {
     pub fn counts(&self) -> Counts
-        ensures shows { Shows model self.now AskCounts (counted result) }
+        ensures shows { Shows F.model self.now AskCounts (counted result) }
     {
         self.reader.counts()
     }
 
     // The latest message; none before the first.
     pub fn latest(&self) -> Option<Message>
-        ensures shows { Shows model self.now AskLatest (newest result) }
+        ensures shows { Shows F.model self.now AskLatest (newest result) }
     {
         self.reader.latest()
     }
 
     // What the whole packets have made of the first record.
     pub fn record(&self) -> &F::Record
-        ensures shows { Shows model self.now AskRecord (recorded result.now) }
+        ensures shows { Shows F.model self.now AskRecord (recorded result.now) }
     {
         self.reader.record()
     }

@@ -40,7 +40,7 @@ fn make_room<R>(window: &mut Window, ledger: &mut Ledger<R>)
 
 impl<F: Family> Reader<F> {
     pub fn new() -> Reader<F>
-        ensures stands { Stands model result [] }
+        ensures stands { Stands F.model result [] }
     {
         Reader {
             window: Window::new(),
@@ -54,7 +54,7 @@ impl<F: Family> Reader<F> {
         requires fits { length block.now ≤ 3832 }
         requires few { self.old.pumped + length block.now ≤ 2 ^ 40 }
         ensures pumped { self.new.pumped ≡ self.old.pumped + length block.now }
-        ensures ran { Ran model took self.old sink.old block.now self.new sink.new }
+        ensures ran { Ran F.model S.took self.old sink.old block.now self.new sink.new }
     {
         let next = F::next_check(self.window.bytes());
         self.window.append(block);
@@ -66,7 +66,7 @@ impl<F: Family> Reader<F> {
 
     // Reads all of `bytes` and hands the sink what they tell; or refuses, and reader and sink are as they were.
     pub fn feed<S: Sink>(&mut self, bytes: &[u8], sink: &mut S) -> Result<(), Refusal>
-        ensures fed { Fed model took self.old «bytes».now sink.old self.new sink.new result }
+        ensures fed { Fed F.model S.took self.old «bytes».now sink.old self.new sink.new result }
     {
         if bytes.len() as u64 > LIMIT - self.pumped {
             return Err(Refusal::PastLimit);

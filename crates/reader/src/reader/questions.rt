@@ -11,7 +11,7 @@ use reading::message::Message;
 
 impl<F: Family> Reader<F> {
     pub fn counts(&self) -> Counts
-        ensures counts { (bs : List ℕ) → Stands model self.now bs → result ≡ counts_of model bs }
+        ensures counts { (bs : List ℕ) → Stands F.model self.now bs → result ≡ counts_of F.model bs }
     {
         Counts {
             pumped: self.pumped,
@@ -34,13 +34,13 @@ impl<F: Family> Reader<F> {
 
     // The latest message; none before the first.
     pub fn latest(&self) -> Option<Message>
-        ensures latest { (bs : List ℕ) → Stands model self.now bs → result ≡ latest_of (reading model bs).tally.messages }
+        ensures latest { (bs : List ℕ) → Stands F.model self.now bs → result ≡ latest_of (reading F.model bs).tally.messages }
     {
         self.ledger.latest
     }
 
     pub fn record(&self) -> &F::Record
-        ensures made { (bs : List ℕ) → Stands model self.now bs → result.now ≡ (reading model bs).tally.made }
+        ensures made { (bs : List ℕ) → Stands F.model self.now bs → result.now ≡ (reading F.model bs).tally.made }
     {
         &self.ledger.record
     }

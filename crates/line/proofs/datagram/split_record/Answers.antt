@@ -7,6 +7,6 @@ pub returns : goal.returns
 returns c =
     let m = c.args.memory.now in
     record {
-      split = first m _ c.from-le-bytes-length.result c.split-at-checked.result (search rules) (take_rest m 2)
-          c.from-le-bytes-length.ensures c.split-at-checked.ensures.cases;
+      split = first m _ c.from_le_bytes-length.result c.split_at_checked.result (search rules) (take_rest m 2)
+          c.from_le_bytes-length.ensures c.split_at_checked.ensures.cases;
     }

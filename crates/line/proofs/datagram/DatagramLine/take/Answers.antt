@@ -19,7 +19,7 @@ loop-content-preserved c =
 pub returns : goal.returns
 returns c =
     let s = c.loop-content.self in
-    let e = c.copy-front-k.ensures in
+    let e = c.copy_front-k.ensures in
     let some : 0 < length s.content.now = search rules in
     record {
       steps = tt;
