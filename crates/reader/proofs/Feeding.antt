@@ -1,6 +1,7 @@
 -- One step after another, and what a byte more does.
 use Rattle.std.proofs.Common.{◌≡◌, ℕ, ◌+◌, ◌-◌, ◌<◌, ◌≤◌, List, [], ◌∷◌, ◌++◌, length, drop, None, sym, refl, ap, ◌∙◌, subst, append_assoc, arith, length-append, length-drop}
 use Rattle.std.proofs.lemmas.List.{append-nil, take_at}
+use Rattle.reading.specs.declared.family.Family.{Ghosts}
 use Rattle.reading.specs.declared.message.Message.{Message}
 use Rattle.reader.specs.declared.ledger.Ledger.{Ledger}
 use Rattle.reader.specs.declared.window.Window.{Window}
@@ -135,13 +136,13 @@ module _ {R : Type 0} (m : Model R) where
   unfolding reading read
   new_held = refl
 
-module _ {F R S : Type 0} (m : Model R) (took : S → Message → S → Type 0) where
-  pub ran_none : (r : Reader F R) (s : S) → Ran m took r s [] r s
+module _ {F R S : Type 0} {G : Ghosts F R} (m : Model R) (took : S → Message → S → Type 0) where
+  pub ran_none : (r : Reader F R G) (s : S) → Ran m took r s [] r s
   ran_none r s bs st =
       let e = append-nil bs in
       (rw e st, record { messages = []; beyond = rw e (sym (append-nil (reading m bs).tally.messages)); handed = refl })
 
-  pub ran_both : (r : Reader F R) (s : S) (xs : List ℕ) (r₁ : Reader F R) (s₁ : S) (ys : List ℕ) (r₂ : Reader F R) (s₂ : S) → Ran m took r s xs r₁ s₁ → Ran m took r₁ s₁ ys r₂ s₂ → Ran m took r s (xs ++ ys) r₂ s₂
+  pub ran_both : (r : Reader F R G) (s : S) (xs : List ℕ) (r₁ : Reader F R G) (s₁ : S) (ys : List ℕ) (r₂ : Reader F R G) (s₂ : S) → Ran m took r s xs r₁ s₁ → Ran m took r₁ s₁ ys r₂ s₂ → Ran m took r s (xs ++ ys) r₂ s₂
   ran_both r s xs r₁ s₁ ys r₂ s₂ f g bs st =
       let x = f bs st in
       let y = g (bs ++ xs) x.0 in

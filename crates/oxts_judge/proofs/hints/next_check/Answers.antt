@@ -9,8 +9,8 @@ returns-in-1-to-21 c = record { above = omega arith; waits = λ bs e lo hi. let 
 pub returns-in-23-to-61 : goal.returns-in-23-to-61
 returns-in-23-to-61 c = record { above = omega arith; waits = λ bs e lo hi. let above = longest_above c.args.format in grind (arith, nat_tests) }
 
-pub returns-in-default : goal.returns-in-default
-returns-in-default c = record { above = omega arith; waits = λ bs e lo hi. let above = longest_above c.args.format in grind (arith, nat_tests) }
+pub returns-in_default : goal.returns-in_default
+returns-in_default c = record { above = omega arith; waits = λ bs e lo hi. let above = longest_above c.args.format in grind (arith, nat_tests) }
 
-pub returns-in-default-2 : goal.returns-in-default-2
-returns-in-default-2 c = record { above = omega arith; waits = λ bs e lo hi. let above = longest_above c.args.format in grind (arith, nat_tests) }
+pub returns-in_default-2 : goal.returns-in_default-2
+returns-in_default-2 c = record { above = omega arith; waits = λ bs e lo hi. let above = longest_above c.args.format in grind (arith, nat_tests) }

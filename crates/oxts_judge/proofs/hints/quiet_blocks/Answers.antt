@@ -14,5 +14,5 @@ loop-n-preserved c =
     let k = n + 16 - n in
     let same : k ≡ 16 = omega arith in
     let size : length (take k (drop n bs)) ≡ 16 = length-take-le k (drop n bs) (omega (arith, length-drop n bs)) ∙ same in
-    let clear : NoSync (take k (drop n bs)) 16 = subst (λ z. NoSync (take k (drop n bs)) z) size (c.if-has-sync.ensures.none refl) in
+    let clear : NoSync (take k (drop n bs)) 16 = subst (λ z. NoSync (take k (drop n bs)) z) size (c.if-has_sync.ensures.none refl) in
     record { within = omega arith; none = none_block bs (take k (drop n bs)) n 16 (ap (λ z. take z (drop n bs)) same) c.loop-n.invariant.none clear }

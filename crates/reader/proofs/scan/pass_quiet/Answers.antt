@@ -13,8 +13,8 @@ returns g c =
     record {
       on = omega arith;
       within = search rules;
-      ledger = c.pass-over.ensures ∙ ap (λ x. after_quiet x c.args.ledger.now) same;
+      ledger = c.pass_over.ensures ∙ ap (λ x. after_quiet x c.args.ledger.now) same;
       quiet = subst (λ x. Quiet g.F.Family.model (drop place c.args.bytes.now) x) same (subst (λ x. Quiet g.F.Family.model x n) (between_to_end c.args.bytes.now place (length c.args.bytes.now) (omega arith)) quiet);
-      some = c.next-check.ensures.above;
-      waits = c.next-check.ensures.waits;
+      some = c.next_check.ensures.above;
+      waits = c.next_check.ensures.waits;
     }

@@ -11,10 +11,10 @@ returns-in-Wait g c =
     let l = c.args.ledger.now in
     let pre = c.requires in
     let cut = c.part-prefix.ensures.value in
-    let r = c.next-check.result in
-    let above : at.next < r = omega (arith, c.part-prefix.ensures.long, c.next-check.ensures.above) in
+    let r = c.next_check.result in
+    let above : at.next < r = omega (arith, c.part-prefix.ensures.long, c.next_check.ensures.above) in
     stepped_wait m g.S.Sink.took bs l at.place at.next c.args.sink.now pre.within pre.some pre.left pre.bounds
-    r (sym (c.in-Wait.ensures.value ∙ ap m.judge cut)) above (subst (λ x. Waits m x r) cut c.next-check.ensures.waits)
+    r (sym (c.in-Wait.ensures.value ∙ ap m.judge cut)) above (subst (λ x. Waits m x r) cut c.next_check.ensures.waits)
 
 pub returns-in-Early : goal.returns-in-Early
 returns-in-Early g c =
@@ -24,10 +24,10 @@ returns-in-Early g c =
     let l = c.args.ledger.now in
     let pre = c.requires in
     let cut = c.part-prefix.ensures.value in
-    let r = c.next-check-in-Early.result in
-    let above : at.next < r = omega (arith, c.part-prefix.ensures.long, c.next-check-in-Early.ensures.above) in
+    let r = c.next_check-in-Early.result in
+    let above : at.next < r = omega (arith, c.part-prefix.ensures.long, c.next_check-in-Early.ensures.above) in
     stepped_early m g.S.Sink.took bs l at.place at.next c.args.sink.now pre.within pre.some pre.left pre.bounds
-    c.in-Early.body r c.tell.new.self c.tell.new.sink (sym (c.in-Early.ensures.value ∙ ap m.judge cut)) above (subst (λ x. Waits m x r) cut c.next-check-in-Early.ensures.waits)
+    c.in-Early.body r c.tell.new.self c.tell.new.sink (sym (c.in-Early.ensures.value ∙ ap m.judge cut)) above (subst (λ x. Waits m x r) cut c.next_check-in-Early.ensures.waits)
     c.tell.ensures.ledger c.tell.ensures.sink
 
 pub returns-in-Fault : goal.returns-in-Fault
@@ -35,9 +35,9 @@ returns-in-Fault g c =
     let m = g.F.Family.model in
     let at = c.args.cursor in
     let pre = c.requires in
-    let on = c.pass-quiet.ensures in
+    let on = c.pass_quiet.ensures in
     stepped_fault m g.S.Sink.took c.args.bytes.now c.args.ledger.now at.place at.next c.args.sink.now pre.within pre.some pre.left pre.bounds
-    c.in-Fault.defect c.pass-quiet.result.place c.pass-quiet.result.next c.skip.new.self c.pass-quiet.new.ledger c.skip.new.sink
+    c.in-Fault.defect c.pass_quiet.result.place c.pass_quiet.result.next c.skip.new.self c.pass_quiet.new.ledger c.skip.new.sink
     (sym (c.in-Fault.ensures.value ∙ ap m.judge c.part-prefix.ensures.value)) c.skip.ensures.ledger on.ledger on.on on.within on.quiet on.some on.waits c.skip.ensures.sink
 
 pub returns-in-Whole : goal.returns-in-Whole
@@ -46,8 +46,8 @@ returns-in-Whole g c =
     let at = c.args.cursor in
     let pre = c.requires in
     let cut = c.part-prefix.ensures.value in
-    let on = c.pass-quiet-in-Whole.ensures in
+    let on = c.pass_quiet-in-Whole.ensures in
     stepped_whole m g.S.Sink.took c.args.bytes.now c.args.ledger.now at.place at.next c.args.sink.now pre.within pre.some pre.left pre.bounds
-    c.in-Whole.body c.pass-quiet-in-Whole.result.place c.pass-quiet-in-Whole.result.next c.absorb.new.«record» c.accept.new.self c.pass-quiet-in-Whole.new.ledger c.accept.new.sink
+    c.in-Whole.body c.pass_quiet-in-Whole.result.place c.pass_quiet-in-Whole.result.next c.absorb.new.«record» c.accept.new.self c.pass_quiet-in-Whole.new.ledger c.accept.new.sink
     (sym (c.in-Whole.ensures.value ∙ ap m.judge cut)) (c.absorb.ensures.after ∙ ap (m.absorb c.args.ledger.now.«record») cut)
     c.accept.ensures.ledger on.ledger on.on on.within on.quiet on.some on.waits c.accept.ensures.sink

@@ -18,5 +18,5 @@ returns c =
     let zs = c.args.block.now in
     let n = w.held + length zs in
     let room : w.held ≤ length w.buffer = omega arith in
-    let put : take n (put_mid w.held (n - w.held) w.buffer c.copy-from-slice.new.self) ≡ take w.held w.buffer ++ zs = joined w.held (n - w.held) n w.buffer c.copy-from-slice.new.self zs c.copy-from-slice.ensures.after (omega arith) room in
+    let put : take n (put_mid w.held (n - w.held) w.buffer c.copy_from_slice.new.self) ≡ take w.held w.buffer ++ zs = joined w.held (n - w.held) n w.buffer c.copy_from_slice.new.self zs c.copy_from_slice.ensures.after (omega arith) room in
     record { bytes = put; held = search rules; long = joined_long w.held n w.buffer zs _ put (omega arith) room }

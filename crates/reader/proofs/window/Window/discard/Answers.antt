@@ -21,4 +21,4 @@ returns c =
     let k = w.held - n in
     let whole : n + k ≡ w.held = omega arith in
     let cut = rw whole at (moved w.buffer n k (omega arith)) in
-    record { bytes = ap (take k) c.copy-within.ensures.after ∙ cut; held = search rules; long = simp length-take (omega (arith, c.copy-within.ensures.len)) }
+    record { bytes = ap (take k) c.copy_within.ensures.after ∙ cut; held = search rules; long = simp length-take (omega (arith, c.copy_within.ensures.len)) }
