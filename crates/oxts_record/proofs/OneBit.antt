@@ -35,8 +35,8 @@ bit_pow_other i j ne =
     (λ (h : i < j). bit_pow_above i j h))
     (cases_order j i)
 
-bit_or : (a b j : ℕ) → bit (bit_or a b) j ≡ bit_or (bit a j) (bit b j)
-bit_or a b j = ap (λ x. x % 2) (or_shr a b j) ∙ or_mod (a / 2 ^ j) (b / 2 ^ j) 1
+bit_of_or : (a b j : ℕ) → bit (bit_or a b) j ≡ bit_or (bit a j) (bit b j)
+bit_of_or a b j = ap (λ x. x % 2) (or_shr a b j) ∙ or_mod (a / 2 ^ j) (b / 2 ^ j) 1
 
 or_one : (x : ℕ) → x < 2 → bit_or x 1 ≡ 1
 or_one zero h = refl
@@ -44,10 +44,10 @@ or_one (suc zero) h = refl
 or_one (suc (suc x)) h = absurd (omega arith)
 
 pub bit_or_same : (a i : ℕ) → bit (bit_or a (2 ^ i)) i ≡ 1
-bit_or_same a i = bit_or a (2 ^ i) i ∙ ap (bit_or (bit a i)) (bit_pow_same i) ∙ or_one (bit a i) (omega arith)
+bit_or_same a i = bit_of_or a (2 ^ i) i ∙ ap (bit_or (bit a i)) (bit_pow_same i) ∙ or_one (bit a i) (omega arith)
 
 pub bit_or_other : (a i j : ℕ) → (j ≡ i → ⊥) → bit (bit_or a (2 ^ i)) j ≡ bit a j
-bit_or_other a i j ne = bit_or a (2 ^ i) j ∙ ap (bit_or (bit a j)) (bit_pow_other i j ne) ∙ or_zero_r (bit a j)
+bit_or_other a i j ne = bit_of_or a (2 ^ i) j ∙ ap (bit_or (bit a j)) (bit_pow_other i j ne) ∙ or_zero_r (bit a j)
 
 -- where the test p at a + k is the bit k of n, as many pass as n has ones
 pub ones_count : (d a n : ℕ) (p : ℕ → Bool) → ((k : ℕ) → k < d → p (a + k) ≡ eqb (bit n k) 1) → n < 2 ^ d → count_by p (range_with_len a d) ≡ ones n

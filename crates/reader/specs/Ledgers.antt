@@ -6,6 +6,7 @@ use Rattle.reading.specs.declared.message.Kind.TheVariants.{Fault as FaultKind}
 use Rattle.reading.specs.declared.message.Message.{Message}
 use Rattle.reader.specs.declared.ledger.Ledger.{Ledger}
 use Rattle.reading.specs.Reading.{Tally, is_passed}
+pub use Rattle.reading.specs.Questions.{latest_of}
 
 abbrev pub message_of : {R : Type 0} → Ledger R → Body → Message
 message_of l b =
@@ -69,11 +70,6 @@ after_packet n l b =
       latest = Some (message_of l b);
       «record» = l.«record»;
     }
-
-abbrev pub latest_of : List Message → Option Message
-latest_of [] = None
-latest_of (x ∷ []) = Some x
-latest_of (x ∷ (y ∷ xs)) = latest_of (y ∷ xs)
 
 pub record Agrees {R : Type 0} (l : Ledger R) (t : Tally R) : Type 0 where
   pub accepted : l.accepted ≡ t.accepted

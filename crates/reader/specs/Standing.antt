@@ -1,11 +1,11 @@
 -- The byte string that a reader stands for, and what feeding it does.
 use Rattle.std.specs.Prelude.{◌≡◌, ℕ, ◌+◌, ◌^◌, ◌<◌, ◌≤◌, List, ◌++◌, length, Ok, Err, Result}
-use Rattle.reading.specs.declared.counts.Counts.{Counts}
 use Rattle.reading.specs.declared.family.Family.{Ghosts}
 use Rattle.reading.specs.declared.refusal.Refusal.{Refusal}
 use Rattle.reading.specs.declared.message.Message.{Message}
 use Rattle.reader.specs.declared.reader.Reader.{Reader}
 use Rattle.reading.specs.Reading.{Model, reading}
+pub use Rattle.reading.specs.Questions.{counts_of}
 use Rattle.reader.specs.Held.{bytes}
 use Rattle.reader.specs.Ledgers.{Agrees, Handed}
 
@@ -14,20 +14,6 @@ pub record Stands {F R : Type 0} {G : Ghosts F R} (m : Model R) (r : Reader F R 
   pub pumped : r.pumped ≡ length bs
   pub held : bytes r.window ≡ (reading m bs).held
   pub agrees : Agrees r.ledger (reading m bs).tally
-
--- the counts of the reading of bs
-abbrev pub counts_of : {R : Type 0} → Model R → List ℕ → Counts
-counts_of m bs =
-    record {
-      pumped = length bs;
-      accepted = (reading m bs).tally.accepted;
-      skipped = (reading m bs).tally.skipped;
-      held = length (reading m bs).held;
-      whole = (reading m bs).tally.whole;
-      passed = (reading m bs).tally.passed;
-      faults = (reading m bs).tally.faults;
-      messages = length (reading m bs).tally.messages;
-    }
 
 -- The sink s was handed what the reading of `more` has beyond that of bs, and is u now.
 pub record News {R S : Type 0} (m : Model R) (bs more : List ℕ) (took : S → Message → S → Type 0) (s u : S) : Type 0 where

@@ -21,5 +21,5 @@ returns g c =
       count = λ l.
           let set : meter.credit ≡ c.args.credit = credit_set _ _ _ _ c.grant.ensures.granted l in
           c.fill-k.ensures.filled.count ∙ ap (min (length c.args.out.now)) (length-take meter.credit (w meter.below) ∙ ap (λ n. min n (length (w meter.below))) set ∙ ap (λ x. min c.args.credit (length (w x))) same);
-      rest = ap w c.into-below.ensures.value ∙ c.fill-k.ensures.steps.below.waits ∙ ap (λ x. drop c.fill-k.result (w x)) same;
+      rest = ap w c.into_below.ensures.value ∙ c.fill-k.ensures.steps.below.waits ∙ ap (λ x. drop c.fill-k.result (w x)) same;
     }

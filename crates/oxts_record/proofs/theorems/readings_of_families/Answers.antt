@@ -5,6 +5,6 @@ use Rattle.oxts_record.proofs.theorems.readings_of_families.Goals as goal
 pub returns : goal.returns
 returns c =
     record {
-      ncom = reads_format Ncom (record {}) c.packets-by-manual.ensures.packets c.reading-keeps.ensures.keeps;
-      mcom = reads_format Mcom (record {}) c.packets-by-manual-2.ensures.packets c.reading-keeps-2.ensures.keeps;
+      ncom = reads_format Ncom (record {}) c.packets_by_manual.ensures.packets c.reading_keeps.ensures.keeps;
+      mcom = reads_format Mcom (record {}) c.packets_by_manual-2.ensures.packets c.reading_keeps-2.ensures.keeps;
     }
