@@ -1,5 +1,6 @@
 // navlog: prints what a recording of an inertial unit holds, its messages first, then counts and record.
 use std::env;
+use std::process::ExitCode;
 
 mod carried;
 mod csv;
@@ -37,12 +38,12 @@ fn run(rt: &HostRuntime) -> Result<(), Failure> {
     }
 }
 
-fn main(rt: HostRuntime) -> Result<(), Failure> {
+fn main(rt: HostRuntime) -> ExitCode {
     match run(&rt) {
-        Ok(()) => Ok(()),
+        Ok(()) => ExitCode::SUCCESS,
         Err(failure) => {
             let _ = eprintln!(rt; "navlog: {failure}");
-            Err(failure)
+            ExitCode::FAILURE
         }
     }
 }
