@@ -86,9 +86,9 @@ fn a_credit_above_the_most_is_refused(rt: HostRuntime) -> Result<(), Fail> {
     let mut line = Meter::new(Plain::new(&FRAMES, 6));
     line.grant(4)?;
     match line.grant(65537) {
-        Ok(()) => Err(Fail::new("granted")),
-        Err(GrantRefusal::AboveMost(credit)) => check_eq(credit, 65537),
-    }?;
+        Ok(()) => return Err(Fail::new("granted")),
+        Err(GrantRefusal::AboveMost(credit)) => assert_eq!(rt; credit, 65537),
+    }
     assert_eq!(rt; drained(&mut line), [0, 2, 0xAA, 0xBB, 0, 0]);
     Ok(())
 }
