@@ -3,7 +3,7 @@
 set -u
 cd "$(dirname "$0")/.."
 ./run >/dev/null || { echo "navlog does not build or run"; exit 1; }
-navlog=target/bin/navlog
+navlog=crates/navlog/out/navlog
 data=crates/navlog/data
 out=$(mktemp) err=$(mktemp)
 trap 'rm -f "$out" "$err"' EXIT

@@ -1,5 +1,6 @@
 -- The law holds.
 use Rattle.std.proofs.Common.{◌≡◌, ℕ, sym, ap, ◌∙◌, arith}
+use Rattle.reading.specs.declared.family.Family.{Ghosts}
 use Rattle.reading.specs.Reading.{Model, Laws}
 use Rattle.reading.proofs.Counted.{keeps}
 use Rattle.law.specs.Calls.{shown_of}
@@ -14,24 +15,24 @@ use Rattle.gateway.specs.Standing.{Represents}
 use Rattle.gateway.specs.Law.{Run, Same, RunLaw}
 use Rattle.gateway.proofs.Running.{showing_reads}
 
-module _ (F : Type 0) {R : Type 0} (model : Model R) (laws : Laws model) where
+module _ (F : Type 0) {R : Type 0} (G : Ghosts F R) (model : Model R) (laws : Laws model) where
   follows : Follows model
   follows = follows_laws model laws
 
-  abbrev state_of : Gateway F R → History R → State
+  abbrev state_of : Gateway F R G → History R → State
   state_of g h = record { bytes = pumped h; slots = slots_of g.bank }
 
-  real : (h : History R) → Run F model h → Reachable model follows h
+  real : (h : History R) → Run F G model h → Reachable model follows h
   real h run = (state_of run.0 h, run.1.run)
 
-  same : (g g' : Gateway F R) (h h' : History R) → Represents model g h → Represents model g' h' → state_of g' h' ≡ state_of g h → Same g g'
+  same : (g g' : Gateway F R G) (h h' : History R) → Represents model g h → Represents model g' h' → state_of g' h' ≡ state_of g h → Same g g'
   same g g' h h' rep rep' e =
       record {
         shows = λ q. showing_reads model laws g' (pumped h') rep'.reads q ∙ ap (λ st. shown_of model st.bytes q) e ∙ sym (showing_reads model laws g (pumped h) rep.reads q);
         slots = ap (λ st. st.slots) e;
       }
 
-  pub law : (h : History R) → Run F model h → RunLaw F model h
+  pub law : (h : History R) → Run F G model h → RunLaw F G model h
   law h run =
       let k = keeps model laws in
       let g = run.0 in
@@ -43,7 +44,7 @@ module _ (F : Type 0) {R : Type 0} (model : Model R) (laws : Laws model) where
         short = k.short (pumped h);
         few = omega (arith, rep.reads.pumped, g.reader.few);
         pump = λ limit waits a run'. pump_answers model follows h limit waits a (real _ run');
-        port = λ p below. port model follows (Run F model) real h run p below;
+        port = λ p below. port model follows (Run F G model) real h run p below;
         no_port = λ p c a above run'. no_port model follows h p c a above (real _ run');
         refused_still = λ g₁ g₂ c n rep₁ rep₂. same g₁ g₂ h _ rep₁ rep₂ (refused_still model follows h _ _ c n rep₁.run rep₂.run);
         missed_still = λ g₁ g₂ p a rep₁ rep₂. same g₁ g₂ h _ rep₁ rep₂ (missed_still model follows h _ _ p a rep₁.run rep₂.run);

@@ -1,6 +1,7 @@
 -- What a pump passes, take after take.
 use Rattle.std.proofs.Common.{◌≡◌, ℕ, ◌+◌, ◌-◌, ◌<◌, ◌≤◌, min, ◌⊎◌, List, ◌++◌, length, take, drop, sym, ap, ◌∙◌, subst, ⊎_elim, arith, length-drop, drop-drop, take-add}
 use Rattle.std.proofs.lemmas.Bool.{cases_lt}
+use Rattle.reading.specs.declared.family.Family.{Ghosts}
 use Rattle.reading.specs.declared.message.Message.{Message}
 use Rattle.reading.specs.Reading.{Model}
 use Rattle.reader.specs.declared.reader.Reader.{Reader}
@@ -9,14 +10,14 @@ use Rattle.reader.proofs.Feeding.{ran_none, ran_both}
 use Rattle.gateway.specs.Passing.{Drawn}
 
 -- Of what waited, W, the first limit - left bytes were passed, and w waits.
-pub record Going {F R S : Type 0} (m : Model R) (took : S → Message → S → Type 0) (limit : ℕ) (W : List ℕ) (r₀ : Reader F R) (s₀ : S) (left : ℕ) (w : List ℕ) (r : Reader F R) (s : S) : Type 0 where
+pub record Going {F R S : Type 0} {G : Ghosts F R} (m : Model R) (took : S → Message → S → Type 0) (limit : ℕ) (W : List ℕ) (r₀ : Reader F R G) (s₀ : S) (left : ℕ) (w : List ℕ) (r : Reader F R G) (s : S) : Type 0 where
   pub within : left ≤ limit
   pub waited : limit - left ≤ length W
   pub rest : w ≡ drop (limit - left) W
   pub pumped : r.pumped ≡ r₀.pumped + (limit - left)
   pub ran : Ran m took r₀ s₀ (take (limit - left) W) r s
 
-module _ {F R S : Type 0} (m : Model R) (took : S → Message → S → Type 0) (limit : ℕ) (W : List ℕ) (r₀ : Reader F R) (s₀ : S) where
+module _ {F R S : Type 0} {G : Ghosts F R} (m : Model R) (took : S → Message → S → Type 0) (limit : ℕ) (W : List ℕ) (r₀ : Reader F R G) (s₀ : S) where
   pub going_none : Going m took limit W r₀ s₀ limit W r₀ s₀
   going_none =
       let none : 0 ≡ limit - limit = omega arith in
@@ -28,8 +29,8 @@ module _ {F R S : Type 0} (m : Model R) (took : S → Message → S → Type 0) 
         ran = subst (λ n. Ran m took r₀ s₀ (take n W) r₀ s₀) none (ran_none m took r₀ s₀);
       }
 
-  module _ (left : ℕ) (w : List ℕ) (r : Reader F R) (s : S) (going : Going m took limit W r₀ s₀ left w r s) where
-    pub going_more : (k : ℕ) (w' : List ℕ) (r' : Reader F R) (s' : S) → Drawn w left k w' → r'.pumped ≡ r.pumped + k → Ran m took r s (take k w) r' s' → Going m took limit W r₀ s₀ (left - k) w' r' s'
+  module _ (left : ℕ) (w : List ℕ) (r : Reader F R G) (s : S) (going : Going m took limit W r₀ s₀ left w r s) where
+    pub going_more : (k : ℕ) (w' : List ℕ) (r' : Reader F R G) (s' : S) → Drawn w left k w' → r'.pumped ≡ r.pumped + k → Ran m took r s (take k w) r' s' → Going m took limit W r₀ s₀ (left - k) w' r' s'
     going_more k w' r' s' drawn grown ran =
         let d = limit - left in
         let fits = drawn.fits in

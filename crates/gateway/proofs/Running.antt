@@ -1,6 +1,7 @@
 -- Each call takes a run one call on.
 use Rattle.std.proofs.Common.{◌≡◌, ℕ, ◌+◌, ◌-◌, ◌*◌, ◌^◌, ◌<◌, ◌≤◌, min, ◌⊎◌, List, [], ◌∷◌, ◌++◌, length, take, drop, Ok, Err, Result, sym, refl, ap, ◌∙◌, subst, ⊎_elim, append-nil, arith, length-append}
 use lib.Seq.{drop-append_seam}
+use Rattle.reading.specs.declared.family.Family.{Ghosts}
 use Rattle.reading.specs.declared.message.Message.{Message}
 use Rattle.reading.specs.Reading.{Model, Laws, reading}
 use Rattle.reader.specs.declared.reader.Reader.{Reader}
@@ -41,7 +42,7 @@ handed_slots b (m ∷ ms) b' h few =
     handed_slots h.0 ms b' h.2 (omega (arith, more)) ∙ ap (λ ss. all_published_to ss ms) first
 
 -- A call that a port refuses leaves the whole gateway as it was.
-pub refused_whole : {F R T E : Type 0} (q : Result T E) (r : Reader F R) (b b' : Bank) → Unchanged q b b' → Unchanged {A = Gateway F R} q (record { reader = r; bank = b }) (record { reader = r; bank = b' })
+pub refused_whole : {F R T E : Type 0} {G : Ghosts F R} (q : Result T E) (r : Reader F R G) (b b' : Bank) → Unchanged q b b' → Unchanged {A = Gateway F R G} q (record { reader = r; bank = b }) (record { reader = r; bank = b' })
 refused_whole (Ok v) r b b' u = tt
 refused_whole (Err e) r b b' u = ap (λ x. record { reader = r; bank = x }) u
 
@@ -65,11 +66,11 @@ module _ {R : Type 0} (model : Model R) (laws : Laws model) where
   most_run (goes {g} {h} r (At p c)) = most_after g.slots p c (length (messages_of model g.bytes)) (most_run r)
   most_run (asks {g} {h} r q) = most_run r
 
-  module _ {F : Type 0} where
-    abbrev state_of : Gateway F R → History R → State
+  module _ {F : Type 0} {G : Ghosts F R} where
+    abbrev state_of : Gateway F R G → History R → State
     state_of g h = record { bytes = pumped h; slots = slots_of g.bank }
 
-    pub goes_pump : (g g' : Gateway F R) (limit : ℕ) (W rest : List ℕ) (d : ℕ) → 0 < limit → limit ≤ 4096 → g.reader.pumped + limit ≤ 2 ^ 40 → d ≡ min limit (length W) → rest ≡ drop d W →
+    pub goes_pump : (g g' : Gateway F R G) (limit : ℕ) (W rest : List ℕ) (d : ℕ) → 0 < limit → limit ≤ 4096 → g.reader.pumped + limit ≤ 2 ^ 40 → d ≡ min limit (length W) → rest ≡ drop d W →
         Ran model Took g.reader g.bank (take d W) g'.reader g'.bank → GoesOn model g g' (Pump limit W) (passed d rest)
     goes_pump g g' limit W rest d some most room d-is rest-is ran h rep =
         let bs = pumped h in
@@ -91,7 +92,7 @@ module _ {R : Type 0} (model : Model R) (laws : Laws model) where
           run = subst (λ ss. Reached model (record { bytes = bs ++ xs; slots = ss }) (called h (Pump limit W) (passed d rest))) slots-are on;
         }
 
-    pub goes_refused : (g : Gateway F R) (limit : ℕ) (W : List ℕ) (n : ℕ) → refused n ≡ pump_answer g.reader.pumped limit W → GoesOn model g g (Pump limit W) (refused n)
+    pub goes_refused : (g : Gateway F R G) (limit : ℕ) (W : List ℕ) (n : ℕ) → refused n ≡ pump_answer g.reader.pumped limit W → GoesOn model g g (Pump limit W) (refused n)
     goes_refused g limit W n e h rep =
         let bs = pumped h in
         let answer-is : refused n ≡ pump_answer (length bs) limit W = e ∙ ap (λ k. pump_answer k limit W) rep.reads.pumped in
@@ -103,7 +104,7 @@ module _ {R : Type 0} (model : Model R) (laws : Laws model) where
           run = subst (λ xs. Reached model (record { bytes = xs; slots = slots_of g.bank }) (called h (Pump limit W) (refused n))) (sym (append-nil bs)) there;
         }
 
-    pub goes_port : (g g' : Gateway F R) (p : ℕ) (c : PortCall) (a : Answer) → a ≡ port_answer (slots_of g.bank) p c → slots_of g'.bank ≡ port_after (slots_of g.bank) p c →
+    pub goes_port : (g g' : Gateway F R G) (p : ℕ) (c : PortCall) (a : Answer) → a ≡ port_answer (slots_of g.bank) p c → slots_of g'.bank ≡ port_after (slots_of g.bank) p c →
         g'.reader ≡ g.reader → GoesOn model g g' (At p c) a
     goes_port g g' p c a answered changed kept h rep =
         record {
@@ -113,7 +114,7 @@ module _ {R : Type 0} (model : Model R) (laws : Laws model) where
         }
 
     -- what a gateway shows is what the reading has
-    pub showing_reads : (g : Gateway F R) (bs : List ℕ) → Stands model g.reader bs → (q : Question) → showing g q ≡ shown_of model bs q
+    pub showing_reads : (g : Gateway F R G) (bs : List ℕ) → Stands model g.reader bs → (q : Question) → showing g q ≡ shown_of model bs q
     showing_reads g bs st AskCounts =
         let a = st.agrees in
         let size : g.reader.window.held ≡ length (reading model bs).held = sym g.reader.long ∙ ap length st.held in
@@ -130,15 +131,15 @@ module _ {R : Type 0} (model : Model R) (laws : Laws model) where
     showing_reads g bs st AskLatest = ap newest st.agrees.latest
     showing_reads g bs st AskRecord = ap recorded st.agrees.made
 
-    pub goes_asked : (g : Gateway F R) (q : Question) (s : Shown R) → ((bs : List ℕ) → Stands model g.reader bs → s ≡ shown_of model bs q) → Shows model g q s
+    pub goes_asked : (g : Gateway F R G) (q : Question) (s : Shown R) → ((bs : List ℕ) → Stands model g.reader bs → s ≡ shown_of model bs q) → Shows model g q s
     goes_asked g q s is h rep =
         record { reads = rep.reads; run = subst (λ x. Reached model (state_of g h) (questioned h q x)) (sym (is (pumped h) rep.reads)) (asks rep.run q) }
 
-    pub begins_new : (g : Gateway F R) → Stands model g.reader [] → slots_of g.bank ≡ new_ports → Represents model g start
+    pub begins_new : (g : Gateway F R G) → Stands model g.reader [] → slots_of g.bank ≡ new_ports → Represents model g start
     begins_new g st new = record { reads = st; run = subst (λ ss. Reached model (record { bytes = []; slots = ss }) start) (sym new) begins }
 
     -- what a pump ensures
-    abbrev pub Pumped : {L : Type 0} → (L → List ℕ) → (L → ℕ → L → Type 0) → Gateway F R → L → ℕ → Result ℕ PumpRefusal → Gateway F R → L → Type 0
+    abbrev pub Pumped : {L : Type 0} → (L → List ℕ) → (L → ℕ → L → Type 0) → Gateway F R G → L → ℕ → Result ℕ PumpRefusal → Gateway F R G → L → Type 0
     Pumped waiting steps g l limit r g' l' =
         record {
           answer : pump_result r (waiting l') ≡ pump_answer g.reader.pumped limit (waiting l);
@@ -150,7 +151,7 @@ module _ {R : Type 0} (model : Model R) (laws : Laws model) where
           run : GoesOn model g g' (Pump limit (waiting l)) (pump_result r (waiting l'));
         }
 
-    module _ {L : Type 0} (waiting : L → List ℕ) (steps : L → ℕ → L → Type 0) (joins : Joins steps) (g : Gateway F R) (l : L) (limit : ℕ) where
+    module _ {L : Type 0} (waiting : L → List ℕ) (steps : L → ℕ → L → Type 0) (joins : Joins steps) (g : Gateway F R G) (l : L) (limit : ℕ) where
       refuses : (e : PumpRefusal) → PumpNames limit (Err e) → refused (pump_number e) ≡ pump_answer g.reader.pumped limit (waiting l) → Pumped waiting steps g l limit (Err e) g l
       refuses e named is =
           record {
@@ -171,7 +172,7 @@ module _ {R : Type 0} (model : Model R) (laws : Laws model) where
       pub refuses_room : 0 < limit → limit ≤ 4096 → 2 ^ 40 < g.reader.pumped + limit → Pumped waiting steps g l limit (Err (PastMost limit)) g l
       refuses_room some most full = refuses (PastMost limit) refl (sym ((pump_law g.reader.pumped limit (waiting l)).no_room some most full))
 
-      passes : (d : ℕ) (g' : Gateway F R) (l' : L) → 0 < limit → limit ≤ 4096 → g.reader.pumped + limit ≤ 2 ^ 40 → d ≡ min limit (length (waiting l)) →
+      passes : (d : ℕ) (g' : Gateway F R G) (l' : L) → 0 < limit → limit ≤ 4096 → g.reader.pumped + limit ≤ 2 ^ 40 → d ≡ min limit (length (waiting l)) →
           waiting l' ≡ drop d (waiting l) → steps l d l' → Ran model Took g.reader g.bank (take d (waiting l)) g'.reader g'.bank →
           Pumped waiting steps g l limit (Ok d) g' l'
       passes d g' l' some most room d-is rest stepped ran =
@@ -187,17 +188,17 @@ module _ {R : Type 0} (model : Model R) (laws : Laws model) where
 
       -- the loop has ended with so many left
       module _ (left : ℕ) (some : 0 < limit) (most : limit ≤ 4096) (room : g.reader.pumped + limit ≤ 2 ^ 40) where
-        pub passes_going : (g' : Gateway F R) (l' : L) → Going model Took limit (waiting l) g.reader g.bank left (waiting l') g'.reader g'.bank →
-            steps l (limit - left) l' → limit - left ≡ min limit (length (waiting l)) → (g'' : Gateway F R) (l'' : L) → g'' ≡ g' → l'' ≡ l' → Pumped waiting steps g l limit (Ok (limit - left)) g'' l''
+        pub passes_going : (g' : Gateway F R G) (l' : L) → Going model Took limit (waiting l) g.reader g.bank left (waiting l') g'.reader g'.bank →
+            steps l (limit - left) l' → limit - left ≡ min limit (length (waiting l)) → (g'' : Gateway F R G) (l'' : L) → g'' ≡ g' → l'' ≡ l' → Pumped waiting steps g l limit (Ok (limit - left)) g'' l''
         passes_going g' l' going stepped all g'' l'' eg el =
             subst (λ x. Pumped waiting steps g l limit (Ok (limit - left)) x l'') (sym eg)
             (subst (λ x. Pumped waiting steps g l limit (Ok (limit - left)) g' x) (sym el)
             (passes (limit - left) g' l' some most room all going.rest stepped going.ran))
 
-        pub passes_dry : (g₁ : Gateway F R) (l₁ : L) → Going model Took limit (waiting l) g.reader g.bank left (waiting l₁) g₁.reader g₁.bank → steps l (limit - left) l₁ →
-            0 < left → (k : ℕ) → k ≡ 0 → (g' : Gateway F R) (l' : L) → Drawn (waiting l₁) left k (waiting l') → g'.reader.pumped ≡ g₁.reader.pumped + k →
+        pub passes_dry : (g₁ : Gateway F R G) (l₁ : L) → Going model Took limit (waiting l) g.reader g.bank left (waiting l₁) g₁.reader g₁.bank → steps l (limit - left) l₁ →
+            0 < left → (k : ℕ) → k ≡ 0 → (g' : Gateway F R G) (l' : L) → Drawn (waiting l₁) left k (waiting l') → g'.reader.pumped ≡ g₁.reader.pumped + k →
             Ran model Took g₁.reader g₁.bank (take k (waiting l₁)) g'.reader g'.bank →
-            steps l₁ k l' → (g'' : Gateway F R) (l'' : L) → g'' ≡ g' → l'' ≡ l' → Pumped waiting steps g l limit (Ok (limit - left)) g'' l''
+            steps l₁ k l' → (g'' : Gateway F R G) (l'' : L) → g'' ≡ g' → l'' ≡ l' → Pumped waiting steps g l limit (Ok (limit - left)) g'' l''
         passes_dry g₁ l₁ going stepped more k none g' l' drawn grown ran step g'' l'' eg el =
             let W = waiting l in
             let on = going_more model Took limit W g.reader g.bank left (waiting l₁) g₁.reader g₁.bank going k (waiting l') g'.reader g'.bank drawn grown ran in

@@ -1,3 +1,5 @@
+#![tactic(auto)]
+
 // Streams, words, packets and lines whose results are known: one table about the definitions, callers of lines, and tests of the code.
 #[cfg(test)]
 mod packets;

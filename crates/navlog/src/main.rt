@@ -1,4 +1,6 @@
 // navlog: prints what a recording of an inertial unit holds, its messages first, then counts and record.
+#![tactic(auto)]
+
 use std::env;
 use std::process::ExitCode;
 

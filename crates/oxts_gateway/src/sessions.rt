@@ -10,13 +10,14 @@ use gateway::refusal::PumpRefusal;
 use line::line::Line;
 use line::meter::Meter;
 use line::plain::Plain;
+use oxts_record::family::Ncom;
 use ports::refusal::TakeRefusal;
 use reading::family::Family;
 use reading::message::Message;
 
 // The first message of the first 64 bytes, by a run of three calls.
 pub fn first_message(bytes: &[u8]) -> Result<Message, TakeRefusal>
-    ensures law { FirstTake bytes.now (take_answer result) }
+    ensures law { FirstTake ⟦<Ncom as Family>⟧ bytes.now (take_answer result) }
 {
     let mut gateway = ncom_gateway();
     let _ = gateway.open(0, 31);

@@ -1,5 +1,5 @@
 -- A format as a family of packets, for any record.
-use Rattle.std.specs.Prelude.{◌≡◌, ℕ, ◌<◌, List, ◌≢◌, slice_index}
+use Rattle.std.specs.Prelude.{ℕ, ◌<◌, List, ◌≢◌, slice_index}
 use Rattle.reading.specs.Reading.{Model}
 use Rattle.oxts.specs.declared.format.Format.{Format}
 use Rattle.oxts.specs.Formats.{longest_of}

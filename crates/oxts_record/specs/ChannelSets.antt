@@ -1,5 +1,5 @@
 -- The set of channels that four words of 64 bits stand for.
-use Rattle.std.specs.Prelude.{ℕ, ◌/◌, ◌%◌, ◌^◌, Bool, List, [], ◌∷◌, set, count_by, ◌==◌, bit_or, slice_index, slice_set}
+use Rattle.std.specs.Prelude.{ℕ, ◌/◌, ◌%◌, ◌^◌, Bool, List, [], ◌∷◌, count_by, ◌==◌, bit_or, slice_index, slice_set}
 use Rattle.std.specs.List.{range_with_len}
 use Rattle.oxts_record.specs.declared.channel_set.ChannelSet.{ChannelSet}
 

@@ -1,5 +1,7 @@
 // The eight ports of a gateway: each is opened for kinds of messages, queues those that come, and counts those that it misses.
 // The bank of ports is the sink of a reader; its calls are those of the law, answer by answer.
+#![tactic(auto)]
+
 pub mod bank;
 mod port;
 mod queue;

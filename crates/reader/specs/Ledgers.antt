@@ -1,5 +1,5 @@
 -- A ledger, which is what a reader keeps of what was read: what each verdict makes of it, and when it agrees with a tally.
-use Rattle.std.specs.Prelude.{◌≡◌, ℕ, ◌+◌, cond, List, [], ◌∷◌, length, replicate, pos, Some, None, Option, ◌==◌}
+use Rattle.std.specs.Prelude.{◌≡◌, ℕ, ◌+◌, cond, List, [], ◌∷◌, length, replicate, pos, Some, ◌==◌}
 use Rattle.reading.specs.declared.message.Body.{Body}
 use Rattle.reading.specs.declared.message.Defect.{Defect}
 use Rattle.reading.specs.declared.message.Kind.TheVariants.{Fault as FaultKind}

@@ -29,7 +29,7 @@ impl<F: Family> Gateway<F> {
     // A gateway that has read nothing, with eight closed ports. Every run of it keeps the law.
     pub fn new() -> Gateway<F>
         ensures start { Represents F.model result start }
-        ensures law { Law F F.model }
+        ensures law { Law F F.Family F.model }
     {
         Gateway {
             reader: Reader::new(),

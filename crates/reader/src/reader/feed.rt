@@ -1,5 +1,5 @@
 // Feeding a reader: block after block goes behind what is held, and all that can be judged is judged.
-ghost use Rattle.std.specs.Prelude.{◌≡◌, ◌+◌, ◌-◌, ◌^◌, ◌<◌, ◌≤◌, [], length};
+ghost use Rattle.std.specs.Prelude.{◌≡◌, ◌+◌, ◌-◌, ◌^◌, ◌<◌, ◌≤◌, [], length, OnOk};
 ghost use Rattle.reader.specs.Held.{bytes};
 ghost use Rattle.reader.specs.Progress.{Bounds};
 ghost use Rattle.reader.specs.Standing.{Stands, Fed, Ran};
@@ -67,6 +67,7 @@ impl<F: Family> Reader<F> {
     // Reads all of `bytes` and hands the sink what they tell; or refuses, and reader and sink are as they were.
     pub fn feed<S: Sink>(&mut self, bytes: &[u8], sink: &mut S) -> Result<(), Refusal>
         ensures fed { Fed F.model S.took self.old «bytes».now sink.old self.new sink.new result }
+        ensures counted { OnOk result (self.new.pumped ≡ self.old.pumped + length «bytes».now) }
     {
         if bytes.len() as u64 > LIMIT - self.pumped {
             return Err(Refusal::PastLimit);

@@ -1,16 +1,21 @@
-use Rattle.std.proofs.Common.{subst, arith}
+use Rattle.std.proofs.Common.{◌≡◌, ℕ, List, subst, arith}
+use Rattle.reading.specs.declared.family.Family.{Ghosts}
+use Rattle.oxts_record.specs.declared.family.Ncom.{Ncom}
 use Rattle.oxts_record.specs.Families.{ncom_model}
-use Rattle.law.specs.Calls.{Pump, At, Open, done}
+use Rattle.law.specs.Calls.{Answer, Pump, At, Open, done}
 use Rattle.law.specs.Runs.{start, called}
 use Rattle.ports.specs.Answers.{take_answer}
 use Rattle.gateway.specs.Standing.{Represents}
 use Rattle.oxts_gateway.specs.Sessions.{FirstTake}
 use Rattle.oxts_gateway.proofs.sessions.first_message.Goals as goal
 
+along : {R : Type 0} {G : Ghosts Ncom R} (a : Answer) (bs bs' : List ℕ) → bs ≡ bs' → FirstTake G bs a → FirstTake G bs' a
+along {G = G} a bs bs' e law = subst (λ x. FirstTake G x a) e law
+
 pub returns : goal.returns
 returns c =
-    let law = c.ncom-gateway-gateway.ensures.law in
-    let rep₀ = c.ncom-gateway-gateway.ensures.start in
+    let law = c.ncom_gateway-gateway.ensures.law in
+    let rep₀ = c.ncom_gateway-gateway.ensures.start in
     let rep₁ = c.«open».ensures.run start rep₀ in
     let opened = ((law start (_, rep₀)).port 0 (omega arith)).open_answers 31 _ (_, rep₁) in
     let h₁ = called start (At 0 (Open 31)) done in
@@ -20,4 +25,4 @@ returns c =
     let pumped = ((law h₁ (_, rep₁)).pump 64 W _ (_, rep₂)).passes (omega arith) (omega arith) (omega arith) in
     let rep₂ = subst (λ a. Represents ncom_model c.pump.new.self (called h₁ (Pump 64 W) a)) pumped rep₂ in
     let rep₃ = c.take.ensures.run _ rep₂ in
-    record { law = subst (λ bs. FirstTake bs (take_answer c.take.result)) c.new-line.ensures.waits (law _ (_, rep₃)) }
+    record { law = along (take_answer c.take.result) _ _ c.new-line.ensures.waits (law _ (_, rep₃)) }

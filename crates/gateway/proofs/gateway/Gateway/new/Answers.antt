@@ -8,5 +8,5 @@ returns g c =
     let laws = g.F.Family.laws in
     record {
       start = begins_new m laws (record { reader = c.new.result; bank = c.new-2.result }) c.new.ensures.stands c.new-2.ensures.slots;
-      law = law g.row.F.Denot m laws;
+      law = law g.row.F.Denot g.F.Family m laws;
     }

@@ -11,8 +11,8 @@ returns-then-limit-eq0 g c =
     refuses_limit g.F.Family.model g.F.Family.laws line.waiting line.steps line.joins c.args.self.now c.args.line.now c.args.limit
     (⊎_elim (λ h. inl h) (λ h. inr h.1) c.then-limit-eq0.either)
 
-pub returns-then-pumped-limit-gt-MOST-BYTES : goal.returns-then-pumped-limit-gt-MOST-BYTES
-returns-then-pumped-limit-gt-MOST-BYTES g c =
+pub returns-then-pumped-limit-gt-MOST_BYTES : goal.returns-then-pumped-limit-gt-MOST_BYTES
+returns-then-pumped-limit-gt-MOST_BYTES g c =
     let line = g.L.Line in
     refuses_room g.F.Family.model g.F.Family.laws line.waiting line.steps line.joins c.args.self.now c.args.line.now c.args.limit
     (omega arith) (omega arith) (omega (arith, c.pumped.ensures.value))

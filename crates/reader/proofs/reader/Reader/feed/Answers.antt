@@ -8,7 +8,7 @@ pub overflow_sub-self : goal.overflow_sub-self
 overflow_sub-self g c = c.args.self.now.few
 
 pub returns-then-bytes-self : goal.returns-then-bytes-self
-returns-then-bytes-self g c = record { fed = (omega (arith, c.args.self.now.few), refl, refl) }
+returns-then-bytes-self g c = record { fed = (omega (arith, c.args.self.now.few), refl, refl); counted = tt }
 
 pub loop-at-init : goal.loop-at-init
 loop-at-init g c =
@@ -40,4 +40,5 @@ returns g c =
     let all = take_all end.at c.args.bytes.now c.loop-at-test.false in
     record {
       fed = (omega (arith, c.args.self.now.few), subst (λ ys. Ran g.F.Family.model g.S.Sink.took c.args.self.now c.args.sink.now ys end.self end.sink) all end.invariant.ran);
+      counted = omega arith;
     }
