@@ -1,5 +1,5 @@
 -- The law holds.
-use Rattle.std.proofs.Common.{◌≡◌, ℕ, sym, ap, ◌∙◌, arith}
+use Rattle.std.proofs.Common.{◌≡◌, sym, ap, ◌∙◌, arith}
 use Rattle.reading.specs.declared.family.Family.{Ghosts}
 use Rattle.reading.specs.Reading.{Model, Laws}
 use Rattle.reading.proofs.Counted.{keeps}

@@ -1,5 +1,5 @@
 -- Each call takes a run one call on.
-use Rattle.std.proofs.Common.{◌≡◌, ℕ, ◌+◌, ◌-◌, ◌*◌, ◌^◌, ◌<◌, ◌≤◌, min, ◌⊎◌, List, [], ◌∷◌, ◌++◌, length, take, drop, Ok, Err, Result, sym, refl, ap, ◌∙◌, subst, ⊎_elim, append-nil, arith, length-append}
+use Rattle.std.proofs.Common.{◌≡◌, ℕ, ◌+◌, ◌-◌, ◌^◌, ◌<◌, ◌≤◌, min, ◌⊎◌, List, [], ◌∷◌, ◌++◌, length, take, drop, Ok, Err, Result, sym, refl, ap, ◌∙◌, subst, ⊎_elim, append-nil, arith, length-append}
 use lib.Seq.{drop-append_seam}
 use Rattle.reading.specs.declared.family.Family.{Ghosts}
 use Rattle.reading.specs.declared.message.Message.{Message}
@@ -8,7 +8,7 @@ use Rattle.reader.specs.declared.reader.Reader.{Reader}
 use Rattle.reader.specs.Ledgers.{Handed}
 use Rattle.reader.specs.Standing.{Stands, Ran}
 use Rattle.line.specs.Steps.{Joins}
-use Rattle.law.specs.Calls.{Call, Pump, At, PortCall, Answer, refused, passed, Question, AskCounts, AskLatest, AskRecord, Shown, counted, newest, recorded, shown_of, messages_of, brought, pump_answer}
+use Rattle.law.specs.Calls.{Pump, At, PortCall, Answer, refused, passed, Question, AskCounts, AskLatest, AskRecord, Shown, counted, newest, recorded, shown_of, messages_of, brought, pump_answer}
 use Rattle.law.specs.Runs.{History, start, called, questioned, pumped, accepted}
 use Rattle.law.specs.Slots.{Slot, published_to, all_published_to, port_answer, port_after, new_ports}
 use Rattle.law.specs.States.{State, fresh, Reached, begins, goes, asks}

@@ -1,5 +1,4 @@
 -- The histories that a gateway represents, and what each call makes of them.
-use Rattle.std.specs.Prelude.{◌≡◌, ℕ, List}
 use Rattle.reading.specs.declared.family.Family.{Ghosts}
 use Rattle.reading.specs.Reading.{Model}
 use Rattle.reader.specs.Standing.{Stands}

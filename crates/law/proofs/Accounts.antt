@@ -1,7 +1,7 @@
 -- After each call of a run, a port is as the run's history says.
 use Rattle.std.proofs.Common.{◌≡◌, ℕ, ◌+◌, ◌<◌, ◌≤◌, Bool, true, false, cond, eqb, ltb, ◌⊎◌, List, [], ◌∷◌, ◌++◌, length, get_or, drop, set, filter, sym, refl, ap, ◌∙◌, subst, inl, inr, append_assoc, append-nil, arith, length-append, length-drop, length-set, get_or-drop, get_or-set_other, get_or-set_same}
 use lib.Seq.{drop-append_seam, drop-append-le, drop-length}
-use Rattle.std.specs.List.{AllByRecursion as All}
+use Rattle.std.specs.List.{AllByRecursion}
 use Rattle.std.proofs.lemmas.List.Elements.{filter-append}
 use Rattle.std.proofs.ByRecursion.{All-weaker, all_kept_by, All-drop, all_from_every}
 use Rattle.std.proofs.lemmas.List.{get_or-map, length-map, get_or-replicate}
@@ -46,11 +46,11 @@ module _ {R : Type 0} (model : Model R) (follows : Follows model) where
       let more = follows.grows (pumped h) (brought waits a) in
       more.1 ∙ ap (λ ms. messages_of model (pumped h) ++ ms) (sym (drop-append_seam (messages_of model (pumped h)) more.0) ∙ ap (drop (length (messages_of model (pumped h)))) (sym more.1))
 
-  pub old_numbers : (h : History R) → All (λ m. m.number ≤ length (published model h)) (published model h)
+  pub old_numbers : (h : History R) → AllByRecursion (λ m. m.number ≤ length (published model h)) (published model h)
   old_numbers h = all_from_every (λ m. m.number ≤ length (published model h)) (published model h)
       (λ k d low high. let e = follows.numbers (pumped h) k d high in omega (arith, e))
 
-  pub new_numbers : (bs more : List ℕ) → All (λ m. length (messages_of model bs) < m.number) (fresh model bs more)
+  pub new_numbers : (bs more : List ℕ) → AllByRecursion (λ m. length (messages_of model bs) < m.number) (fresh model bs more)
   new_numbers bs more = all_from_every (λ m. length (messages_of model bs) < m.number) (fresh model bs more)
       (λ k d low high.
       let n = length (messages_of model bs) in
@@ -66,12 +66,12 @@ module _ {R : Type 0} (model : Model R) (follows : Follows model) where
   pub before_new : (h : History R) (c : Call) (a : Answer) (n : ℕ) → length (published model h) < n → before model n (called h c a) ≡ h
   before_new h c a n late = cond-true (ltb (length (published model h)) n) h (before model n h) (lt-ltb _ _ late)
 
-  came_old : (h : History R) (o : Opening) → All (λ m. m.number ≤ length (published model h)) (came_of o (published model h))
+  came_old : (h : History R) (o : Opening) → AllByRecursion (λ m. m.number ≤ length (published model h)) (came_of o (published model h))
   came_old h closed = tt
   came_old h (since n w) = all_kept_by (wants w) _ _ (All-drop _ n _ (old_numbers h))
 
   module _ (p : ℕ) where
-    given_old : (h : History R) (c : Call) (a : Answer) (o : Opening) → All (λ m. given_at model p (called h c a) m ≡ given_at model p h m) (came_of o (published model h))
+    given_old : (h : History R) (c : Call) (a : Answer) (o : Opening) → AllByRecursion (λ m. given_at model p (called h c a) m ≡ given_at model p h m) (came_of o (published model h))
     given_old h c a o = All-weaker _ _ (λ m old. ap (given p) (before_old h c a m.number old)) _ (came_old h o)
 
     pub data Account (h : History R) : Slot → Type 0 where
@@ -184,7 +184,7 @@ module _ {R : Type 0} (model : Model R) (follows : Follows model) where
         let news = fresh model (pumped h) (brought waits a) in
         let F = given_at model p h' in
         let pub-is = published_pump h limit waits a in
-        let late : All (λ m. F m ≡ given p h) news =
+        let late : AllByRecursion (λ m. F m ≡ given p h) news =
         All-weaker _ _ (λ m l. ap (given p) (before_new h (Pump limit waits) a m.number l)) news (new_numbers (pumped h) (brought waits a)) in
         let r = come F w (given p h) ws count news late in
         let old : List Message = came model p h in

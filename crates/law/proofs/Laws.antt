@@ -1,7 +1,7 @@
 -- The law of a port and of a pump holds of every run, and a refused call, a missed count or a question changes nothing.
 use Rattle.std.proofs.Common.{◌≡◌, ℕ, ◌+◌, ◌<◌, ◌≤◌, min, Bool, true, false, cond, not, ltb, leb, ◌⊎◌, List, [], ◌∷◌, ◌++◌, length, get_or, drop, set, sym, refl, ap, ◌∙◌, subst, inl, inr, append-nil, arith}
 use lib.Seq.{drop-length, set-get_or}
-use Rattle.std.specs.List.{ContainsAt as Has, flat_map, AllByRecursion as All}
+use Rattle.std.specs.List.{ContainsAt, flat_map, AllByRecursion}
 use Rattle.std.proofs.ByRecursion.{All-weaker, all_has_itself, all_kept_by, kept_by_passes}
 use Rattle.std.proofs.lemmas.Bool.{cond_both, not-true, true≢false, cases_lt, cond-true, cond-false, le-ltb, lt-ltb, le-leb, lt-leb, ne_eqb}
 use Rattle.reading.specs.declared.message.Message.{Message}
@@ -129,8 +129,8 @@ module _ {R : Type 0} (model : Model R) (follows : Follows model) where
         let none : came model p h ≡ [] = ap (λ x. came_of x (published model h)) o in
         record {
           lost = λ m. [];
-          lost_met = subst (All (λ m. [] ≡ lost_when (waiting_when (λ _. []) (came model p h) (given_at model p h m) m) m)) (sym none) tt;
-          lost_only = λ lost' _. subst (All (λ m. lost' m ≡ [])) (sym none) tt;
+          lost_met = subst (AllByRecursion (λ m. [] ≡ lost_when (waiting_when (λ _. []) (came model p h) (given_at model p h m) m) m)) (sym none) tt;
+          lost_only = λ lost' _. subst (AllByRecursion (λ m. lost' m ≡ [])) (sym none) tt;
           missed = [];
           missed_lost = sym (ap (flat_map (λ _. [])) none);
           came_rises = came_rises h (opening model p h);
@@ -143,8 +143,8 @@ module _ {R : Type 0} (model : Model R) (follows : Follows model) where
           waiting_rest = sym (ap (λ xs. without (without xs []) (given p h)) none);
           waiting_rises = tt;
           waiting_room = omega arith;
-          fates = subst (All (λ m. Has (given p h) m ⊎ (Has [] m ⊎ Has [] m))) (sym none) tt;
-          missed_full = subst (All (λ m. LostIfFull [] (waiting_when (λ _. []) (came model p h) (given_at model p h m) m) m)) (sym none) tt;
+          fates = subst (AllByRecursion (λ m. ContainsAt (given p h) m ⊎ (ContainsAt [] m ⊎ ContainsAt [] m))) (sym none) tt;
+          missed_full = subst (AllByRecursion (λ m. LostIfFull [] (waiting_when (λ _. []) (came model p h) (given_at model p h m) m) m)) (sym none) tt;
           open_answers = λ w a run. at (Open w) a run ∙ ap (λ x. when_open x (refused 5) (cond (wantable w) done (refused 6))) (sym o);
           take_answers = λ a run. at Take a run ∙ ap (λ x. when_open x (oldest []) (refused 7)) (sym o);
           missed_answers = λ a run. at Missed a run ∙ ap (λ x. when_open x (told 0) (refused 7)) (sym o);
@@ -158,8 +158,8 @@ module _ {R : Type 0} (model : Model R) (follows : Follows model) where
         let rises = came_rises h (opening model p h) in
         let rest : without all lost ≡ gs ++ ws = sym (held_rest base fair_base F [] all rises al) ∙ eq in
         let held-rises : Rises (gs ++ ws) = subst Rises rest (rises_kept _ all rises) in
-        let held-came : All (Has all) (gs ++ ws) = subst (All (Has all)) rest (all_kept_by _ (Has all) all (all_has_itself all)) in
-        let missed_came : All (Has all) lost = missed_all base fair_base F (Has all) [] all rises al (all_has_itself all) in
+        let held-came : AllByRecursion (ContainsAt all) (gs ++ ws) = subst (AllByRecursion (ContainsAt all)) rest (all_kept_by _ (ContainsAt all) all (all_has_itself all)) in
+        let missed_came : AllByRecursion (ContainsAt all) lost = missed_all base fair_base F (ContainsAt all) [] all rises al (all_has_itself all) in
         let met = met_all base fair_base F all rises al in
         record {
           lost = lost_of base fair_base F all;
@@ -168,12 +168,12 @@ module _ {R : Type 0} (model : Model R) (follows : Follows model) where
           missed = lost;
           missed_lost = sym (ap (λ xs. flat_map (lost_of base fair_base F xs) all) (sym (append-nil all)) ∙ lost_joined base fair_base F [] all [] (subst Rises (sym (append-nil all)) rises));
           came_rises = rises;
-          given_came = (all_parts (Has all) gs ws held-came).0;
+          given_came = (all_parts (ContainsAt all) gs ws held-came).0;
           given_rises = (parted gs ws held-rises).front;
           missed_came = missed_came;
           missed_once = missed_once base fair_base F [] all rises al;
           given_not_missed = All-weaker _ _ (λ m e. not-true (among m.number lost) e) gs
-              (all_parts (λ m. not (among m.number lost) ≡ true) gs ws (subst (All (λ m. not (among m.number lost) ≡ true)) rest (kept_by_passes _ all))).0;
+              (all_parts (λ m. not (among m.number lost) ≡ true) gs ws (subst (AllByRecursion (λ m. not (among m.number lost) ≡ true)) rest (kept_by_passes _ all))).0;
           waiting = ws;
           waiting_rest = sym (ap (λ xs. without xs gs) rest ∙ without_front gs ws held-rises);
           waiting_rises = (parted gs ws held-rises).back;

@@ -1,6 +1,6 @@
 -- Lists of messages in rising number.
 use Rattle.std.proofs.Common.{◌≡◌, ℕ, zero, suc, ◌+◌, ◌<◌, ◌≤◌, Bool, true, false, cond, not, eqb, List, [], ◌∷◌, ◌++◌, length, get_or, drop, filter, refl, ap, ◌∙◌, append-nil, arith}
-use Rattle.std.specs.List.{AllByRecursion as All}
+use Rattle.std.specs.List.{AllByRecursion}
 use Rattle.std.proofs.lemmas.List.Elements.{filter-append}
 use Rattle.std.proofs.ByRecursion.{All-weaker, all_kept_by}
 use Rattle.std.proofs.lemmas.Bool.{cond-true, le-ltb, lt-ltb, eq-eqb, ne_eqb}
@@ -8,12 +8,12 @@ use Rattle.reading.specs.declared.message.Message.{Message}
 use Rattle.law.specs.Laws.{Rises, among, without, ahead}
 
 abbrev pub Above : ℕ → List Message → Type 0
-Above n ms = All (λ x. n < x.number) ms
+Above n ms = AllByRecursion (λ x. n < x.number) ms
 
 abbrev pub Below : ℕ → List Message → Type 0
-Below n ms = All (λ x. x.number < n) ms
+Below n ms = AllByRecursion (λ x. x.number < n) ms
 
-pub among_none : (n : ℕ) (ms : List Message) → All (λ x. x.number ≡ n → ⊥) ms → among n ms ≡ false
+pub among_none : (n : ℕ) (ms : List Message) → AllByRecursion (λ x. x.number ≡ n → ⊥) ms → among n ms ≡ false
 among_none n [] none = refl
 among_none n (m ∷ ms) none = rw (ne_eqb m.number n none.0) (among_none n ms none.1)
 
@@ -42,40 +42,40 @@ among_later n m ms e = by (eqb m.number n)
     by true = refl
     by false = e
 
-pub among_itself : (ms : List Message) → All (λ m. among m.number ms ≡ true) ms
+pub among_itself : (ms : List Message) → AllByRecursion (λ m. among m.number ms ≡ true) ms
 among_itself [] = tt
 among_itself (m ∷ ms) = (among_head m ms, All-weaker _ _ (λ x e. among_later x.number m ms e) ms (among_itself ms))
 
-pub kept_all : (t : Message → Bool) (ms : List Message) → All (λ m. t m ≡ true) ms → filter t ms ≡ ms
+pub kept_all : (t : Message → Bool) (ms : List Message) → AllByRecursion (λ m. t m ≡ true) ms → filter t ms ≡ ms
 kept_all t [] all = refl
 kept_all t (m ∷ ms) all = rw all.0 (ap (λ xs. m ∷ xs) (kept_all t ms all.1))
 
-pub kept_none : (t : Message → Bool) (ms : List Message) → All (λ m. t m ≡ false) ms → filter t ms ≡ []
+pub kept_none : (t : Message → Bool) (ms : List Message) → AllByRecursion (λ m. t m ≡ false) ms → filter t ms ≡ []
 kept_none t [] all = refl
 kept_none t (m ∷ ms) all = rw all.0 (kept_none t ms all.1)
 
-pub without_none : (ms out : List Message) → All (λ m. among m.number out ≡ false) ms → without ms out ≡ ms
+pub without_none : (ms out : List Message) → AllByRecursion (λ m. among m.number out ≡ false) ms → without ms out ≡ ms
 without_none ms out all = kept_all _ ms (All-weaker _ _ (λ m e. ap not e) ms all)
 
-pub without_all : (ms out : List Message) → All (λ m. among m.number out ≡ true) ms → without ms out ≡ []
+pub without_all : (ms out : List Message) → AllByRecursion (λ m. among m.number out ≡ true) ms → without ms out ≡ []
 without_all ms out all = kept_none _ ms (All-weaker _ _ (λ m e. ap not e) ms all)
 
 -- parts of a rising list
 pub record Parted (xs ys : List Message) : Type 0 where
   pub front : Rises xs
   pub back : Rises ys
-  pub over : All (λ x. Above x.number ys) xs
-  pub under : All (λ y. Below y.number xs) ys
+  pub over : AllByRecursion (λ x. Above x.number ys) xs
+  pub under : AllByRecursion (λ y. Below y.number xs) ys
 
-pub all_parts : (P : Message → Type 0) (xs ys : List Message) → All P (xs ++ ys) → All P xs × All P ys
+pub all_parts : (P : Message → Type 0) (xs ys : List Message) → AllByRecursion P (xs ++ ys) → AllByRecursion P xs × AllByRecursion P ys
 all_parts P [] ys all = (tt, all)
 all_parts P (x ∷ xs) ys all = let rest = all_parts P xs ys all.1 in ((all.0, rest.0), rest.1)
 
-pub all_both : (P Q : Message → Type 0) (xs : List Message) → All P xs → All Q xs → All (λ x. P x × Q x) xs
+pub all_both : (P Q : Message → Type 0) (xs : List Message) → AllByRecursion P xs → AllByRecursion Q xs → AllByRecursion (λ x. P x × Q x) xs
 all_both P Q [] p q = tt
 all_both P Q (x ∷ xs) p q = ((p.0, q.0), all_both P Q xs p.1 q.1)
 
-all_true : (P : Message → Type 0) (xs : List Message) → ((x : Message) → P x) → All P xs
+all_true : (P : Message → Type 0) (xs : List Message) → ((x : Message) → P x) → AllByRecursion P xs
 all_true P [] f = tt
 all_true P (x ∷ xs) f = (f x, all_true P xs f)
 
@@ -105,7 +105,7 @@ rises_drop (suc n) [] r = tt
 rises_drop (suc n) (m ∷ ms) r = rises_drop n ms r.1
 
 -- two messages of a rising list with one number are one
-pub rises_same : (ms : List Message) → Rises ms → All (λ m. All (λ x. x.number ≡ m.number → x ≡ m) ms) ms
+pub rises_same : (ms : List Message) → Rises ms → AllByRecursion (λ m. AllByRecursion (λ x. x.number ≡ m.number → x ≡ m) ms) ms
 rises_same [] r = tt
 rises_same (m ∷ ms) r = (
   (λ _. refl, All-weaker _ _ (λ x l e. absurd (let z : ⊥ = omega arith in z)) ms r.0),
@@ -113,7 +113,7 @@ rises_same (m ∷ ms) r = (
 )
 
 -- numbers that count up
-pub rises_counted : (base : ℕ) (ms : List Message) → ((k : ℕ) (d : Message) → k < length ms → (get_or ms k d).number ≡ base + k) → Rises ms × All (λ m. base ≤ m.number) ms
+pub rises_counted : (base : ℕ) (ms : List Message) → ((k : ℕ) (d : Message) → k < length ms → (get_or ms k d).number ≡ base + k) → Rises ms × AllByRecursion (λ m. base ≤ m.number) ms
 rises_counted base [] at = (tt, tt)
 rises_counted base (m ∷ ms) at =
     let head : m.number ≡ base + 0 = at 0 m (omega arith) in

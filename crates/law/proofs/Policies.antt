@@ -1,6 +1,6 @@
 -- A port that loses what comes to it when it is full loses each message at most once, and keeps the rest.
 use Rattle.std.proofs.Common.{◌≡◌, Bool, true, false, cond, ltb, List, [], ◌∷◌, ◌++◌, length, sym, refl, ap, ◌∙◌, append-nil}
-use Rattle.std.specs.List.{ContainsAt as Has, AllByRecursion as All}
+use Rattle.std.specs.List.{ContainsAt, AllByRecursion}
 use Rattle.std.proofs.lemmas.List.Elements.{filter-append}
 use Rattle.std.proofs.ByRecursion.{All-weaker, has_push}
 use Rattle.reading.specs.declared.message.Message.{Message}
@@ -31,7 +31,7 @@ fair_base = record {
     rest ws m r true = sym (without_nothing (ws ++ m ∷ []))
     rest ws m r false = without_last ws m r
 
-    some : (ws : List Message) (m : Message) (b : Bool) → All (Has (ws ++ m ∷ [])) (cond b [] (m ∷ []))
+    some : (ws : List Message) (m : Message) (b : Bool) → AllByRecursion (ContainsAt (ws ++ m ∷ [])) (cond b [] (m ∷ []))
     some ws m true = tt
     some ws m false = (has_push ws m, tt)
 

@@ -3,7 +3,6 @@ use Rattle.std.specs.Prelude.{ℕ, min, List, length, drop}
 use Rattle.reading.specs.declared.family.Family.{Ghosts}
 use Rattle.reading.specs.Reading.{Model}
 use Rattle.oxts_record.specs.declared.family.Ncom.{Ncom}
-use Rattle.oxts_record.specs.Families.{ncom_model}
 use Rattle.law.specs.Calls.{Answer, done, passed, Pump, At, Open, Take, pump_answer}
 use Rattle.law.specs.Runs.{History, start, called, pumped}
 use Rattle.gateway.specs.declared.gateway.Gateway.{Gateway}
