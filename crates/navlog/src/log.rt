@@ -12,7 +12,7 @@ use line::datagram::{Datagram, record_count};
 use line::opener::Opener;
 use line::plain::Plain;
 use oxts_record::family::{Mcom, Ncom};
-use oxts_record::record::{Marker, Record};
+use oxts_record::record::Record;
 use reader::reader::Reader;
 use reading::family::Family;
 use std::fs::File;
@@ -74,7 +74,7 @@ fn read_all<F: Family, S: Read, W: Write>(
     Ok(reader)
 }
 
-fn log_family<M: Copy + Marker, F: Family<Record = Record<M>>, S: Read>(
+fn log_family<M: Copy, F: Family<Record = Record<M>>, S: Read>(
     rt: &HostRuntime,
     recording: Recording<'_>,
     source: &mut S,

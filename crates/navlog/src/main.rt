@@ -26,8 +26,7 @@ FILE         the recording, bytes as they came from the line; - for standard inp
 
 It prints a line for each message in the order of the recording,
   message NUMBER kind KIND place PLACE code CODE : nine quantities
-then the counts of the reading, the record, how many status channels were heard,
-the valid quantities and status fields by name and unit, and the full time.
+then the counts of the reading, the record, and how many status channels were heard.
 Kinds: 1 inertial, 2 solution, 4 status, 8 packet passed over, 16 fault.";
 
 fn run(rt: &HostRuntime) -> Result<(), Failure> {
