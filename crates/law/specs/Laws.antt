@@ -96,7 +96,7 @@ module _ {R : Type 0} (model : Model R) (Run : History R → Type 0) where
     -- That says of each message whether it was lost: no other account is right.
     pub lost_only : (lost' : Message → List Message) → AllByRecursion (λ m. lost' m ≡ lost_when (waiting_when lost' (came model p h) (given_at model p h m) m) m) (came model p h)
         → AllByRecursion (λ m. lost' m ≡ lost m) (came model p h)
-    -- AllByRecursion this was missed: only what came, none twice, and nothing that is given.
+    -- All this was missed: only what came, none twice, and nothing that is given.
     pub missed : List Message
     pub missed_lost : missed ≡ flat_map lost (came model p h)
     pub missed_came : AllByRecursion (ContainsAt (came model p h)) missed

@@ -34,6 +34,8 @@ fn a_port_sees_no_neighbour_and_no_cut(rt: HostRuntime) -> Result<(), Fail> {
         pump_packet(&mut alone, 72)?;
         pump_packet(&mut busy, 5)?;
         assert_eq!(rt; busy.take(0)?.place, 72 * i);
+        // Port 7 wants all three messages of each packet, and takes one.
+        assert_eq!(rt; busy.take(7)?.place, 72 * (i / 3));
     }
     assert_eq!(rt; alone.missed(3)?, 4);
     assert_eq!(rt; busy.missed(3)?, 4);
