@@ -1,6 +1,6 @@
 -- One step after another, and what a byte more does.
-use Rattle.std.proofs.Common.{◌≡◌, ℕ, ◌-◌, ◌<◌, ◌≤◌, List, [], ◌∷◌, ◌++◌, length, drop, None, sym, refl, ap, ◌∙◌, subst, append_assoc, arith, length-append, length-drop}
-use Rattle.std.proofs.lemmas.List.{append-nil, take_at}
+use Rattle.std.proofs.Common.{◌≡◌, ℕ, ◌-◌, ◌<◌, ◌≤◌, List, [], ◌++◌, length, drop, None, sym, refl, ap, ◌∙◌, subst, append_assoc, arith, length-append, length-drop}
+use Rattle.std.proofs.lemmas.List.{append-nil, length-take-le, take_at}
 use Rattle.reading.specs.declared.family.Family.{Ghosts}
 use Rattle.reading.specs.declared.message.Message.{Message}
 use Rattle.reader.specs.declared.ledger.Ledger.{Ledger}
@@ -8,36 +8,18 @@ use Rattle.reader.specs.declared.window.Window.{Window}
 use Rattle.reader.specs.declared.reader.Reader.{Reader}
 use Rattle.reading.specs.Reading.{Model, Laws, reading, read, resumed, Waits}
 use Rattle.reader.specs.Held.{bytes}
-use Rattle.reader.specs.Ledgers.{Agrees, Handed}
+use Rattle.reader.specs.Ledgers.{Agrees}
 use Rattle.reader.specs.Progress.{Moved, Moves}
 use Rattle.reader.specs.Standing.{Stands, News}
 use Rattle.reader.specs.Standing.{Ran}
 use Rattle.reading.proofs.Steps.{stop, resumed_ends, reading_more}
-use Rattle.reading.proofs.Jumps.{jumped}
+use Rattle.reader.proofs.Moves.{handed_both, moves_both, moves_waits}
 use Rattle.reading.proofs.Opens.{held_short}
-
-pub handed_both : {S : Type 0} (took : S → Message → S → Type 0) (s : S) (xs : List Message) (v : S) (ys : List Message) (u : S) → Handed took s xs v → Handed took v ys u → Handed took s (xs ++ ys) u
-handed_both took s [] v ys u h k = rw h k
-handed_both took s (x ∷ xs) v ys u h k = (h.0, h.1, handed_both took h.0 xs v ys u h.2 k)
 
 module _ {R S : Type 0} (m : Model R) (took : S → Message → S → Type 0) where
   pub moves_none : (l : Ledger R) (w : List ℕ) (n : ℕ) (s : S) → Moves m took l w n s l w n s
   moves_none l w n s t a =
       record { now_read = t; agrees = a; same = refl; news = []; told = sym (append-nil t.messages); handed = refl }
-
-  pub moves_both : (l : Ledger R) (w : List ℕ) (n : ℕ) (s : S) (l₁ : Ledger R) (w₁ : List ℕ) (n₁ : ℕ) (s₁ : S) (l₂ : Ledger R) (w₂ : List ℕ) (n₂ : ℕ) (s₂ : S) →
-      Moves m took l w n s l₁ w₁ n₁ s₁ → Moves m took l₁ w₁ n₁ s₁ l₂ w₂ n₂ s₂ → Moves m took l w n s l₂ w₂ n₂ s₂
-  moves_both l w n s l₁ w₁ n₁ s₁ l₂ w₂ n₂ s₂ f g t a =
-      let x = f t a in
-      let y = g x.now_read x.agrees in
-      record {
-        now_read = y.now_read;
-        agrees = y.agrees;
-        same = x.same ∙ y.same;
-        news = x.news ++ y.news;
-        told = y.told ∙ ap (λ z. z ++ y.news) x.told ∙ append_assoc t.messages x.news y.news;
-        handed = handed_both took s x.news s₁ y.news s₂ x.handed y.handed;
-      }
 
   -- all that is left is judged
   pub moves_end : (l : Ledger R) (w : List ℕ) (n : ℕ) (s : S) (l' : Ledger R) (w' : List ℕ) (n' k : ℕ) (s' : S) → length w' ≤ n' → length w' ≤ k →
@@ -80,42 +62,35 @@ module _ {R S : Type 0} (m : Model R) (took : S → Message → S → Type 0) wh
         let e = ap length read_held in
         omega arith
 
-  -- the lengths up to the first check are judged to wait
-  pub moves_jump : (l : Ledger R) (held xs : List ℕ) (next : ℕ) (s : S) (l' : Ledger R) (w' : List ℕ) (n' : ℕ) (s' : S) → length held < next → Waits m held next →
-      Moves m took l (held ++ xs) (next - 1) s l' w' n' s' → Moves m took l (held ++ xs) (length held) s l' w' n' s'
-  moves_jump l held xs next s l' w' n' s' above waits f t a =
-      let x = f t a in
-      let front = take_at held xs (length held) refl in
-      let long = length-append held xs in
-      record {
-        now_read = x.now_read;
-        agrees = x.agrees;
-        same = jumped m t (length held) next (held ++ xs) above (omega arith) (subst (λ z. Waits m z next) (sym front) waits) ∙ x.same;
-        news = x.news;
-        told = x.told;
-        handed = x.handed;
-      }
+  -- What a block does to a reader that holds `held`: w₁ is the window behind which the block stands, w₂ and l₁ are what the scan leaves, and w₃ and l₃ are the same where less is left than the longest packet has.
+  module _ (laws : Laws m) (l : Ledger R) (held xs all : List ℕ) (next : ℕ) (s : S) (l₁ : Ledger R) (left : ℕ) (s' : S) (w₁ w₂ w₃ : Window) (l₃ : Ledger R)
+      (joined : bytes w₁ ≡ held ++ xs) (is_all : all ≡ bytes w₁) (above : length held < next) (waits : Waits m held next) (within : left ≤ length all)
+      (moves : Moves m took l all (next - 1) s l₁ (drop (length all - left) all) left s')
+      (cut : bytes w₂ ≡ drop (w₁.held - left) (bytes w₁)) (size : w₂.held ≡ left) (kept : w₂.held < 264 → (w₃ ≡ w₂) × (l₃ ≡ l₁)) where
+    is_rest : drop (length all - left) all ≡ bytes w₂
+    is_rest =
+        let long : length (bytes w₁) ≡ w₁.held = length-take-le w₁.held w₁.buffer (omega (arith, w₁.full, w₁.few)) in
+        rw (is_all, long) (sym cut)
 
-  -- What a block does to a reader that holds `held`: w₂ and l₁ are what the scan leaves, and w₃ and l₃ are the same where less is left than the longest packet has.
-  module _ (laws : Laws m) (l : Ledger R) (held prefix xs all : List ℕ) (next : ℕ) (s : S) (l₁ : Ledger R) (place : ℕ) (s' : S) (w₂ w₃ : Window) (l₃ : Ledger R)
-      (is_held_lem : prefix ≡ held) (is_all : all ≡ held ++ xs) (above : length prefix < next) (waits : Waits m prefix next)
-      (moves : Moves m took l all (next - 1) s l₁ (drop place all) (length all - place) s')
-      (cut : bytes w₂ ≡ drop place all) (long : length (bytes w₂) ≡ w₂.held) (kept : w₂.held < 264 → (w₃ ≡ w₂) × (l₃ ≡ l₁)) where
-    from_held : Moves m took l (held ++ xs) (length held) s l₁ (drop place all) (length all - place) s'
+    ended : length (bytes w₂) ≡ left
+    ended = ap length (sym is_rest) ∙ simp length-drop (omega arith)
+
+    from_held : Moves m took l (held ++ xs) (length held) s l₁ (bytes w₂) left s'
     from_held =
-        moves_jump l held xs next s l₁ (drop place all) (length all - place) s' (subst (λ z. length z < next) is_held_lem above) (subst (λ z. Waits m z next) is_held_lem waits)
-        (subst (λ z. Moves m took l z (next - 1) s l₁ (drop place all) (length all - place) s') is_all moves)
+        let front = take_at held xs (length held) refl in
+        let long = length-append held xs in
+        moves_both m took (moves_waits m took l (held ++ xs) s (length held) next above (omega arith) (rw front waits))
+        (subst (λ z. Moves m took l z (next - 1) s l₁ (bytes w₂) left s') (is_all ∙ joined) (rw is_rest at moves))
 
     pub taken : (bs : List ℕ) → held ≡ (reading m bs).held → Agrees l (reading m bs).tally →
         (bytes w₃ ≡ (reading m (bs ++ xs)).held) × Agrees l₃ (reading m (bs ++ xs)).tally × News m bs (bs ++ xs) took s s'
     taken bs holds agrees =
-        let rest : List ℕ = drop place all in
-        let ended : length rest ≤ length all - place = simp length-drop (omega arith) in
-        let short = read_short bs xs l held s l₁ rest (length all - place) s' agrees holds ended from_held laws in
-        let same = kept (omega (arith, ap length cut)) in (
-          ap bytes same.0 ∙ cut ∙ read_held bs xs l held s l₁ rest (length all - place) s' agrees holds ended from_held,
-          subst (λ z. Agrees z (reading m (bs ++ xs)).tally) (sym same.1) (read_agrees bs xs l held s l₁ rest (length all - place) s' agrees holds ended from_held),
-          read_news bs xs l held s l₁ rest (length all - place) s' agrees holds ended from_held,
+        let end : length (bytes w₂) ≤ left = omega (arith, ended) in
+        let short = read_short bs xs l held s l₁ (bytes w₂) left s' agrees holds end from_held laws in
+        let same = kept (omega (arith, ended, short)) in (
+          ap bytes same.0 ∙ read_held bs xs l held s l₁ (bytes w₂) left s' agrees holds end from_held,
+          subst (λ z. Agrees z (reading m (bs ++ xs)).tally) (sym same.1) (read_agrees bs xs l held s l₁ (bytes w₂) left s' agrees holds end from_held),
+          read_news bs xs l held s l₁ (bytes w₂) left s' agrees holds end from_held,
         )
 
 -- a new ledger

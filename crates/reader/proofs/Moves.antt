@@ -1,15 +1,15 @@
 -- What one verdict does to the ledger, the window and the sink is what it does to the reading.
-use Rattle.std.proofs.Common.{◌≡◌, ℕ, zero, suc, ◌+◌, ◌-◌, ◌*◌, ◌<◌, ◌≤◌, Bool, true, false, cond, eqb, List, [], ◌∷◌, ◌++◌, length, take, drop, Some, sym, refl, ap, ◌∙◌, subst, add-zero, arith, length-drop}
-use Rattle.std.proofs.lemmas.List.{append-nil, length_push, length-take-le, drop-drop}
+use Rattle.std.proofs.Common.{◌≡◌, ℕ, zero, suc, ◌+◌, ◌-◌, ◌<◌, ◌≤◌, Bool, true, false, cond, eqb, List, [], ◌∷◌, ◌++◌, length, take, drop, Some, sym, refl, ap, ◌∙◌, subst, append_assoc, add-zero, arith}
+use Rattle.std.proofs.lemmas.List.{append-nil, length_push, length-take-le}
 use Rattle.reading.specs.declared.message.Body.{Body}
 use Rattle.reading.specs.declared.message.Defect.{Defect}
 use Rattle.reading.specs.declared.message.Message.{Message}
 use Rattle.reading.specs.declared.message.Verdict.{Verdict}
 use Rattle.reading.specs.declared.message.Verdict.TheVariants.{Wait, Early, Fault, Whole}
 use Rattle.reader.specs.declared.ledger.Ledger.{Ledger}
-use Rattle.reading.specs.Reading.{Model, Tally, told, faulted, completed, body_message, fault_message, passed_over, is_passed, ruled, resumed, Waits, Quiet}
+use Rattle.reading.specs.Reading.{Model, Tally, told, faulted, completed, body_message, fault_message, passed_over, is_passed, ruled, resumed, Waits}
 use Rattle.reader.specs.Ledgers.{message_of, after_telling, after_quiet, fault_body, after_fault, after_packet, latest_of, Agrees, Handed}
-use Rattle.reader.specs.Progress.{Moves, Bounds}
+use Rattle.reader.specs.Progress.{PassedOver, Moves}
 use Rattle.reading.proofs.Steps.{resumed_step}
 use Rattle.reading.proofs.Jumps.{jumped, quieted}
 
@@ -106,169 +106,111 @@ agrees_quiet l t n a =
       made = a.made;
     }
 
-abbrev pub Stepped : {R S : Type 0} → Model R → (S → Message → S → Type 0) → List ℕ → Ledger R → ℕ → ℕ → S → Ledger R → ℕ → ℕ → S → Type 0
-Stepped m took bs l place next s l' place' next' s' =
-    record {
-      within : place' ≤ length bs;
-      some : 1 ≤ next';
-      bounds : Bounds l' (length bs - place') (next' - 1);
-      all : l'.accepted + l'.skipped + (length bs - place') ≡ l.accepted + l.skipped + (length bs - place);
-      falls : 4098 * (length bs - place') + (4097 - next') < 4098 * (length bs - place) + (4097 - next);
-      moves : Moves m took l (drop place bs) (next - 1) s l' (drop place' bs) (next' - 1) s';
-    }
-
 -- the prefix of `next` bytes is judged
 checked : {R : Type 0} (m : Model R) (t : Tally R) (next : ℕ) (rest : List ℕ) (v : Verdict) → 1 ≤ next → next ≤ length rest → m.judge (take next rest) ≡ v →
     resumed m t (next - 1) rest ≡ ruled m (λ u. resumed m u next rest) (λ u r. resumed m u 0 r) t next rest v
 checked m t zero rest v some h e = absurd (let z : ⊥ = omega arith in z)
 checked m t (suc n) rest v some h e = let one : suc n - 1 ≡ n = omega arith in rw one (resumed_step m t n rest v h e)
 
-module _ {R S : Type 0} (m : Model R) (took : S → Message → S → Type 0) (bs : List ℕ) (l : Ledger R) (place next : ℕ) (s : S)
-    (within : place ≤ length bs) (some : 1 ≤ next) (left : next ≤ length bs - place) (bounds : Bounds l (length bs - place) (next - 1)) where
-  size : length (drop place bs) ≡ length bs - place
-  size = length-drop place bs
+pub handed_both : {S : Type 0} (took : S → Message → S → Type 0) (s : S) (xs : List Message) (v : S) (ys : List Message) (u : S) → Handed took s xs v → Handed took v ys u → Handed took s (xs ++ ys) u
+handed_both took s [] v ys u h k = rw h k
+handed_both took s (x ∷ xs) v ys u h k = (h.0, h.1, handed_both took h.0 xs v ys u h.2 k)
 
-  same_at : (t : Tally R) (v : Verdict) → m.judge (take next (drop place bs)) ≡ v →
-      resumed m t (next - 1) (drop place bs) ≡ ruled m (λ u. resumed m u next (drop place bs)) (λ u r. resumed m u 0 r) t next (drop place bs) v
-  same_at t v e = checked m t next (drop place bs) v some (omega (arith, size)) e
-
-  onward : (u : Tally R) (r : ℕ) → next < r → Waits m (take next (drop place bs)) r → resumed m u next (drop place bs) ≡ resumed m u (r - 1) (drop place bs)
-  onward u r above waits = jumped m u next r (drop place bs) above (omega (arith, size)) waits
-
-  pub stepped_wait : (r : ℕ) → m.judge (take next (drop place bs)) ≡ Wait → next < r → Waits m (take next (drop place bs)) r → Stepped m took bs l place next s l place r s
-  stepped_wait r e above waits =
+module _ {R S : Type 0} (m : Model R) (took : S → Message → S → Type 0) where
+  -- one step after another
+  pub moves_both : {l : Ledger R} {w : List ℕ} {n : ℕ} {s : S} {l₁ : Ledger R} {w₁ : List ℕ} {n₁ : ℕ} {s₁ : S} {l₂ : Ledger R} {w₂ : List ℕ} {n₂ : ℕ} {s₂ : S} →
+      Moves m took l w n s l₁ w₁ n₁ s₁ → Moves m took l₁ w₁ n₁ s₁ l₂ w₂ n₂ s₂ → Moves m took l w n s l₂ w₂ n₂ s₂
+  moves_both {s = s} {s₁ = s₁} {s₂ = s₂} f g t a =
+      let x = f t a in
+      let y = g x.now_read x.agrees in
       record {
-        within = within;
-        some = omega arith;
-        bounds = omega arith;
-        all = refl;
-        falls = omega arith;
-        moves = λ t a. record {
-          now_read = t;
-          agrees = a;
-          same = same_at t Wait e ∙ onward t r above waits;
-          news = [];
-          told = sym (append-nil t.messages);
-          handed = refl;
-        };
+        now_read = y.now_read;
+        agrees = y.agrees;
+        same = x.same ∙ y.same;
+        news = x.news ++ y.news;
+        told = y.told ∙ ap (λ z. z ++ y.news) x.told ∙ append_assoc t.messages x.news y.news;
+        handed = handed_both took s x.news s₁ y.news s₂ x.handed y.handed;
       }
 
-  stepped_early_at : (b : Body) (r : ℕ) (s' : S) → m.judge (take next (drop place bs)) ≡ Early b → next < r → Waits m (take next (drop place bs)) r → took s (message_of l b) s' →
-      Stepped m took bs l place next s (after_telling l b) place r s'
-  stepped_early_at b r s' e above waits h =
+  -- the lengths up to the next check are judged to wait
+  pub moves_waits : (l : Ledger R) (rest : List ℕ) (s : S) (n r : ℕ) → n < r → n ≤ length rest → Waits m (take n rest) r → Moves m took l rest n s l rest (r - 1) s
+  moves_waits l rest s n r above within waits t a =
+      record { now_read = t; agrees = a; same = jumped m t n r rest above within waits; news = []; told = sym (append-nil t.messages); handed = refl }
+
+  moves_over : (l : Ledger R) (rest : List ℕ) (s : S) (l' : Ledger R) (rest' : List ℕ) → PassedOver m l rest l' rest' → Moves m took l rest 0 s l' rest' 0 s
+  moves_over l rest s l' rest' p t a =
       record {
-        within = within;
-        some = omega arith;
-        bounds = omega arith;
-        all = refl;
-        falls = omega arith;
-        moves = λ t a. record {
+        now_read = passed_over p.many t;
+        agrees = subst (λ x. Agrees x (passed_over p.many t)) (sym p.skipped) (agrees_quiet l t p.many a);
+        same = quieted m p.many t rest p.within p.quiet ∙ ap (λ x. resumed m (passed_over p.many t) 0 x) (sym p.behind);
+        news = [];
+        told = sym (append-nil t.messages);
+        handed = refl;
+      }
+
+  -- past bytes that are at fault alone, to the first check at the next place
+  moves_on : (l : Ledger R) (rest : List ℕ) (s : S) (l' : Ledger R) (rest' : List ℕ) (r : ℕ) → PassedOver m l rest l' rest' → 1 ≤ r → Waits m [] r → Moves m took l rest 0 s l' rest' (r - 1) s
+  moves_on l rest s l' rest' r p first waits = moves_both (moves_over l rest s l' rest' p) (moves_waits l' rest' s 0 r first (omega arith) waits)
+
+  module _ (l : Ledger R) (rest : List ℕ) (next : ℕ) (s : S) (some : 1 ≤ next) (within : next ≤ length rest) where
+    moves_wait : m.judge (take next rest) ≡ Wait → Moves m took l rest (next - 1) s l rest next s
+    moves_wait e t a = record { now_read = t; agrees = a; same = checked m t next rest Wait some within e; news = []; told = sym (append-nil t.messages); handed = refl }
+
+    moves_early : (b : Body) (l' : Ledger R) (s' : S) → m.judge (take next rest) ≡ Early b → l' ≡ after_telling l b → took s (message_of l b) s' → Moves m took l rest (next - 1) s l' rest next s'
+    moves_early b l' s' e el h t a =
+        record {
           now_read = told b t;
-          agrees = agrees_told l t a b;
-          same = same_at t (Early b) e ∙ onward (told b t) r above waits;
+          agrees = rw el (agrees_told l t a b);
+          same = checked m t next rest (Early b) some within e;
           news = body_message t b ∷ [];
           told = refl;
           handed = (s', rw (said l t a b) at h, refl);
-        };
-      }
+        }
 
-  pub stepped_early : (b : Body) (r : ℕ) (l' : Ledger R) (s' : S) → m.judge (take next (drop place bs)) ≡ Early b → next < r → Waits m (take next (drop place bs)) r →
-      l' ≡ after_telling l b → took s (message_of l b) s' → Stepped m took bs l place next s l' place r s'
-  stepped_early b r l' s' e above waits el h = subst (λ x. Stepped m took bs l place next s x place r s') (sym el) (stepped_early_at b r s' e above waits h)
+    handed_fault : (t : Tally R) (a : Agrees l t) (d : Defect) (first : Bool) (s' : S) → Handed took s (cond first [] (message_of l (fault_body d) ∷ [])) s' →
+        Handed took s (cond first [] (fault_message t d ∷ [])) s'
+    handed_fault t a d true s' h = h
+    handed_fault t a d false s' h = (h.0, rw (said l t a (fault_body d)) at h.1, h.2)
 
-  -- from the next place, past bytes that are at fault alone, to the first check there
-  module _ (p r : ℕ) (k : ℕ) (on : k ≤ p) (ends : p ≤ length bs) (quiet : Quiet m (drop k bs) (p - k)) (first : 1 ≤ r) (waits : Waits m [] r) where
-    passing_on : (u : Tally R) → resumed m u 0 (drop k bs) ≡ resumed m (passed_over (p - k) u) (r - 1) (drop p bs)
-    passing_on u =
-        let long = length-drop k bs in
-        let e : k + (p - k) ≡ p = omega arith in
-        let at_p : drop (p - k) (drop k bs) ≡ drop p bs = drop-drop (p - k) k bs ∙ ap (λ x. drop x bs) e in
-        quieted m (p - k) u (drop k bs) (omega (arith, long)) quiet ∙ ap (λ x. resumed m (passed_over (p - k) u) 0 x) at_p ∙ jumped m (passed_over (p - k) u) 0 r (drop p bs) first (omega arith) waits
-
-  handed_fault : (t : Tally R) (a : Agrees l t) (d : Defect) (first : Bool) (s' : S) → Handed took s (cond first [] (message_of l (fault_body d) ∷ [])) s' →
-      Handed took s (cond first [] (fault_message t d ∷ [])) s'
-  handed_fault t a d true s' h = h
-  handed_fault t a d false s' h = (h.0, rw (said l t a (fault_body d)) at h.1, h.2)
-
-  fault_bounds : (first : Bool) (q : ℕ) →
-      (l.messages + cond first 0 1 ≤ 4096 * (l.accepted + (l.skipped + 1 + q))) × (l.faults + cond first 0 1 ≤ l.skipped + 1 + q)
-  fault_bounds true q = (omega arith, omega arith)
-  fault_bounds false q = (omega arith, omega arith)
-
-  stepped_fault_at : (d : Defect) (p r : ℕ) (s' : S) → m.judge (take next (drop place bs)) ≡ Fault d →
-      place + 1 ≤ p → p ≤ length bs → Quiet m (drop (place + 1) bs) (p - (place + 1)) → 1 ≤ r → Waits m [] r →
-      Handed took s (cond (eqb next 1) [] (message_of l (fault_body d) ∷ [])) s' →
-      Stepped m took bs l place next s (after_quiet (p - (place + 1)) (after_fault next l d)) p r s'
-  stepped_fault_at d p r s' e on ends quiet first waits h =
-      let b = fault_bounds (eqb next 1) (p - (place + 1)) in
-      record {
-        within = ends;
-        some = first;
-        bounds = record {
-          few = omega arith;
-          told = omega (arith, b.0);
-          told_left = omega (arith, b.0);
-          whole = bounds.whole;
-          passes = bounds.passes;
-          faulty = b.1;
-          fits = omega arith;
-        };
-        all = omega arith;
-        falls = omega arith;
-        moves = λ t a. record {
-          now_read = passed_over (p - (place + 1)) (faulted next d t);
-          agrees = agrees_quiet (after_fault next l d) (faulted next d t) (p - (place + 1)) (agrees_faulted l t a next d);
-          same = same_at t (Fault d) e ∙ ap (λ x. resumed m (faulted next d t) 0 x) (drop-drop 1 place bs) ∙ passing_on p r (place + 1) on ends quiet first waits (faulted next d t);
+    moves_fault : (d : Defect) (l' : Ledger R) (s' : S) → m.judge (take next rest) ≡ Fault d → l' ≡ after_fault next l d →
+        Handed took s (cond (eqb next 1) [] (message_of l (fault_body d) ∷ [])) s' → Moves m took l rest (next - 1) s l' (drop 1 rest) 0 s'
+    moves_fault d l' s' e el h t a =
+        record {
+          now_read = faulted next d t;
+          agrees = rw el (agrees_faulted l t a next d);
+          same = checked m t next rest (Fault d) some within e;
           news = cond (eqb next 1) [] (fault_message t d ∷ []);
           told = refl;
           handed = handed_fault t a d (eqb next 1) s' h;
-        };
-      }
+        }
 
-  pub stepped_fault : (d : Defect) (p r : ℕ) (l₁ l' : Ledger R) (s' : S) → m.judge (take next (drop place bs)) ≡ Fault d → l₁ ≡ after_fault next l d → l' ≡ after_quiet (p - (place + 1)) l₁ →
-      place + 1 ≤ p → p ≤ length bs → Quiet m (drop (place + 1) bs) (p - (place + 1)) → 1 ≤ r → Waits m [] r →
-      Handed took s (cond (eqb next 1) [] (message_of l (fault_body d) ∷ [])) s' →
-      Stepped m took bs l place next s l' p r s'
-  stepped_fault d p r l₁ l' s' e el eq on ends quiet first waits h =
-      subst (λ x. Stepped m took bs l place next s x p r s') (sym (eq ∙ ap (after_quiet (p - (place + 1))) el)) (stepped_fault_at d p r s' e on ends quiet first waits h)
-
-  passed_bound : (passing : Bool) → l.passed + cond passing 1 0 ≤ l.whole + 1
-  passed_bound true = omega arith
-  passed_bound false = omega arith
-
-  stepped_whole_at : (b : Body) (p r : ℕ) (made : R) (s' : S) → m.judge (take next (drop place bs)) ≡ Whole b → made ≡ m.absorb l.«record» (take next (drop place bs)) →
-      place + next ≤ p → p ≤ length bs → Quiet m (drop (place + next) bs) (p - (place + next)) → 1 ≤ r → Waits m [] r → took s (message_of l b) s' →
-      Stepped m took bs l place next s (after_quiet (p - (place + next)) (after_packet next (with_record l made) b)) p r s'
-  stepped_whole_at b p r made s' e makes on ends quiet first waits h =
-      let packet : List ℕ = take next (drop place bs) in
-      let long = sym (length-take-le next (drop place bs) (omega (arith, size))) in
-      record {
-        within = ends;
-        some = first;
-        bounds = record {
-          few = omega arith;
-          told = omega arith;
-          told_left = omega arith;
-          whole = omega arith;
-          passes = passed_bound (is_passed b.kind);
-          faulty = omega arith;
-          fits = omega arith;
-        };
-        all = omega arith;
-        falls = omega arith;
-        moves = λ t a. record {
-          now_read = passed_over (p - (place + next)) (completed m packet b t);
-          agrees = agrees_quiet (after_packet next (with_record l made) b) (completed m packet b t) (p - (place + next)) (agrees_completed m l t made next packet b a long makes);
-          same = same_at t (Whole b) e ∙ ap (λ x. resumed m (completed m packet b t) 0 x) (drop-drop next place bs) ∙ passing_on p r (place + next) on ends quiet first waits (completed m packet b t);
+    moves_whole : (b : Body) (made : R) (l' : Ledger R) (s' : S) → m.judge (take next rest) ≡ Whole b → made ≡ m.absorb l.«record» (take next rest) →
+        l' ≡ after_packet next (with_record l made) b → took s (message_of l b) s' → Moves m took l rest (next - 1) s l' (drop next rest) 0 s'
+    moves_whole b made l' s' e makes el h t a =
+        let packet : List ℕ = take next rest in
+        record {
+          now_read = completed m packet b t;
+          agrees = rw el (agrees_completed m l t made next packet b a (sym (length-take-le next rest within)) makes);
+          same = checked m t next rest (Whole b) some within e;
           news = body_message t b ∷ [];
           told = refl;
           handed = (s', rw (said l t a b) at h, refl);
-        };
-      }
+        }
 
-  pub stepped_whole : (b : Body) (p r : ℕ) (made : R) (l₁ l' : Ledger R) (s' : S) → m.judge (take next (drop place bs)) ≡ Whole b → made ≡ m.absorb l.«record» (take next (drop place bs)) →
-      l₁ ≡ after_packet next (with_record l made) b → l' ≡ after_quiet (p - (place + next)) l₁ →
-      place + next ≤ p → p ≤ length bs → Quiet m (drop (place + next) bs) (p - (place + next)) → 1 ≤ r → Waits m [] r → took s (message_of l b) s' →
-      Stepped m took bs l place next s l' p r s'
-  stepped_whole b p r made l₁ l' s' e makes el eq on ends quiet first waits h =
-      subst (λ x. Stepped m took bs l place next s x p r s') (sym (eq ∙ ap (after_quiet (p - (place + next))) el)) (stepped_whole_at b p r made s' e makes on ends quiet first waits h)
+    -- The prefix is judged, and the work goes on to the next check.
+    pub stepped_wait : (r : ℕ) → m.judge (take next rest) ≡ Wait → next < r → Waits m (take next rest) r → Moves m took l rest (next - 1) s l rest (r - 1) s
+    stepped_wait r e above waits = moves_both (moves_wait e) (moves_waits l rest s next r above within waits)
+
+    pub stepped_early : (b : Body) (r : ℕ) (l' : Ledger R) (s' : S) → m.judge (take next rest) ≡ Early b → next < r → Waits m (take next rest) r →
+        l' ≡ after_telling l b → took s (message_of l b) s' → Moves m took l rest (next - 1) s l' rest (r - 1) s'
+    stepped_early b r l' s' e above waits el h = moves_both (moves_early b l' s' e el h) (moves_waits l' rest s' next r above within waits)
+
+    pub stepped_fault : (d : Defect) (l₁ l' : Ledger R) (rest' : List ℕ) (r : ℕ) (s' : S) → m.judge (take next rest) ≡ Fault d → l₁ ≡ after_fault next l d →
+        PassedOver m l₁ (drop 1 rest) l' rest' → 1 ≤ r → Waits m [] r →
+        Handed took s (cond (eqb next 1) [] (message_of l (fault_body d) ∷ [])) s' → Moves m took l rest (next - 1) s l' rest' (r - 1) s'
+    stepped_fault d l₁ l' rest' r s' e el p first waits h = moves_both (moves_fault d l₁ s' e el h) (moves_on l₁ (drop 1 rest) s' l' rest' r p first waits)
+
+    pub stepped_whole : (b : Body) (made : R) (l₁ l' : Ledger R) (rest' : List ℕ) (r : ℕ) (s' : S) → m.judge (take next rest) ≡ Whole b → made ≡ m.absorb l.«record» (take next rest) →
+        l₁ ≡ after_packet next (with_record l made) b → PassedOver m l₁ (drop next rest) l' rest' → 1 ≤ r → Waits m [] r →
+        took s (message_of l b) s' → Moves m took l rest (next - 1) s l' rest' (r - 1) s'
+    stepped_whole b made l₁ l' rest' r s' e makes el p first waits h = moves_both (moves_whole b made l₁ s' e makes el h) (moves_on l₁ (drop next rest) s' l' rest' r p first waits)

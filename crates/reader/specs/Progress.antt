@@ -1,9 +1,23 @@
 -- How the work at a place goes on.
-use Rattle.std.specs.Prelude.{◌≡◌, ℕ, ◌+◌, ◌*◌, ◌^◌, ◌≤◌, List, ◌++◌}
+use Rattle.std.specs.Prelude.{◌≡◌, ℕ, ◌+◌, ◌*◌, ◌^◌, ◌≤◌, List, ◌++◌, length, drop}
 use Rattle.reading.specs.declared.message.Message.{Message}
 use Rattle.reader.specs.declared.ledger.Ledger.{Ledger}
-use Rattle.reading.specs.Reading.{Model, Tally, resumed}
-use Rattle.reader.specs.Ledgers.{Agrees, Handed}
+use Rattle.reading.specs.Reading.{Model, Tally, Quiet, resumed}
+use Rattle.reader.specs.Ledgers.{Agrees, Handed, after_quiet}
+
+-- What is left of bs behind some of its first bytes.
+pub record LeftOf (bs rest : List ℕ) : Type 0 where
+  pub before : ℕ
+  pub within : before ≤ length bs
+  pub behind : rest ≡ drop before bs
+
+-- Some of the first of `rest` are passed over, each of them at fault alone.
+pub record PassedOver {R : Type 0} (m : Model R) (l : Ledger R) (rest : List ℕ) (l' : Ledger R) (rest' : List ℕ) : Type 0 where
+  pub many : ℕ
+  pub within : many ≤ length rest
+  pub behind : rest' ≡ drop many rest
+  pub quiet : Quiet m rest many
+  pub skipped : l' ≡ after_quiet many l
 
 -- From the tally t, with n prefixes of `rest` judged, to n' of rest': the reading that is left is the same, and the sink was handed what was told.
 pub record Moved {R S : Type 0} (m : Model R) (took : S → Message → S → Type 0) (t : Tally R) (rest : List ℕ) (n : ℕ) (s : S) (l' : Ledger R) (rest' : List ℕ) (n' : ℕ) (s' : S) : Type 0 where

@@ -1,6 +1,5 @@
 // The reader of a stream: a window over the bytes that are held, and the ledger of what was read before them.
-ghost use Rattle.std.specs.Prelude.{◌≡◌, ◌+◌, ◌*◌, ◌^◌, ◌<◌, ◌≤◌, length};
-ghost use Rattle.reader.specs.Held.{bytes};
+ghost use Rattle.std.specs.Prelude.{◌≡◌, ◌+◌, ◌*◌, ◌^◌, ◌<◌, ◌≤◌};
 
 use crate::ledger::Ledger;
 use crate::window::Window;
@@ -21,5 +20,4 @@ pub struct Reader<F: Family> {
     ghost passes: { ledger.passed ≤ ledger.whole },
     ghost faulty: { ledger.faults ≤ ledger.skipped },
     ghost fits: { window.held < 264 },
-    ghost long: { length (bytes window) ≡ window.held },
 }

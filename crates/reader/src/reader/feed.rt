@@ -1,12 +1,11 @@
 // Feeding a reader: block after block goes behind what is held, and all that can be judged is judged.
-ghost use Rattle.std.specs.Prelude.{◌≡◌, ◌+◌, ◌-◌, ◌^◌, ◌<◌, ◌≤◌, [], length, OnOk};
-ghost use Rattle.reader.specs.Held.{bytes};
+ghost use Rattle.std.specs.Prelude.{◌≡◌, ◌+◌, ◌^◌, ◌<◌, ◌≤◌, [], length, OnOk};
 ghost use Rattle.reader.specs.Progress.{Bounds};
 ghost use Rattle.reader.specs.Standing.{Stands, Fed, Ran};
 
 use crate::ledger::Ledger;
 use crate::reader::Reader;
-use crate::scan::{part, scan};
+use crate::scan::scan;
 use crate::window::Window;
 use reading::family::Family;
 use reading::refusal::Refusal;
@@ -24,17 +23,15 @@ const BLOCK: usize = 3832;
 // Passes over what is held if it is as long as the longest packet of any family. For what stands for a byte string that is never so, by the laws of its family.
 fn make_room<R>(window: &mut Window, ledger: &mut Ledger<R>)
     requires bounds { Bounds ledger.old window.old.held window.old.held }
-    requires long { length (bytes window.old) ≡ window.old.held }
     ensures short { window.new.held < 264 }
-    ensures long { length (bytes window.new) ≡ window.new.held }
     ensures bounds { Bounds ledger.new window.new.held window.new.held }
     ensures all { ledger.new.accepted + ledger.new.skipped + window.new.held ≡ ledger.old.accepted + ledger.old.skipped + window.old.held }
     ensures kept { window.old.held < 264 → (window.new ≡ window.old) × (ledger.new ≡ ledger.old) }
 {
-    let left = window.held();
-    if left >= LONGEST {
-        ledger.pass_over(left);
-        window.discard(left);
+    let held = window.held();
+    if held >= LONGEST {
+        ledger.pass_over(held);
+        window.keep(0);
     }
 }
 
@@ -58,8 +55,8 @@ impl<F: Family> Reader<F> {
     {
         let next = F::next_check(self.window.bytes());
         self.window.append(block);
-        let place = scan::<F, S>(self.window.bytes(), next, &mut self.ledger, sink);
-        self.window.discard(place);
+        let left = scan::<F, S>(self.window.bytes(), next, &mut self.ledger, sink);
+        self.window.keep(left);
         make_room(&mut self.window, &mut self.ledger);
         self.pumped += block.len() as u64;
     }
@@ -72,11 +69,8 @@ impl<F: Family> Reader<F> {
         if bytes.len() as u64 > LIMIT - self.pumped {
             return Err(Refusal::PastLimit);
         }
-        let mut at = 0;
-        while at < bytes.len() {
-            let n = BLOCK.min(bytes.len() - at);
-            self.take_in(part(bytes, at, n), sink);
-            at += n;
+        for block in bytes.chunks(BLOCK) {
+            self.take_in(block, sink);
         }
         Ok(())
     }

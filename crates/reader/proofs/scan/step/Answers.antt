@@ -1,53 +1,47 @@
-use Rattle.std.proofs.Common.{◌<◌, sym, ap, ◌∙◌, subst, arith}
-use Rattle.reading.specs.Reading.{Waits}
+use Rattle.std.proofs.Common.{◌<◌, sym, arith}
+use Rattle.std.proofs.lemmas.List.{length-take-le}
 use Rattle.reader.proofs.Moves.{stepped_wait, stepped_early, stepped_fault, stepped_whole}
+use Rattle.reader.proofs.Progressing.{left_all, left_behind, passed_from}
+use Rattle.reader.proofs.scan.step.Goals.{in-Wait, in-Early, in-Fault, in-Whole}
 use Rattle.reader.proofs.scan.step.Goals as goal
 
-pub returns-in-Wait : goal.returns-in-Wait
-returns-in-Wait g c =
+pub returns-clause-moves : goal.returns-clause-moves
+returns-clause-moves g c =
     let m = g.F.Family.model in
-    let bs = c.args.bytes.now in
-    let at = c.args.cursor in
+    let rest = c.args.cursor.rest.now in
+    let n = c.args.cursor.next in
     let l = c.args.ledger.now in
-    let pre = c.requires in
-    let cut = c.part-prefix.ensures.value in
-    let r = c.next_check.result in
-    let above : at.next < r = omega (arith, c.part-prefix.ensures.long, c.next_check.ensures.above) in
-    stepped_wait m g.S.Sink.took bs l at.place at.next c.args.sink.now pre.within pre.some pre.left pre.bounds
-    r (sym (c.in-Wait.ensures.value ∙ ap m.judge cut)) above (subst (λ x. Waits m x r) cut c.next_check.ensures.waits)
+    let s = c.args.sink.now in
+    let some = c.args.cursor.some in
+    let within = c.requires.within in
+    let long = length-take-le n rest within in
+    elim c.match-judge.branch [
+      | in-Wait w ↦
+          let above : n < w.next_check.result = omega (arith, w.next_check.ensures.above) in
+          rw (w.result-is, w.ledger-is, w.sink-is)
+          (stepped_wait m g.S.Sink.took l rest n s some within w.next_check.result (sym w.in-Wait.ensures.value) above w.next_check.ensures.waits)
+      | in-Early w ↦
+          let above : n < w.next_check-in-Early.result = omega (arith, w.next_check-in-Early.ensures.above) in
+          rw (w.result-is, w.ledger-is, w.sink-is)
+          (stepped_early m g.S.Sink.took l rest n s some within w.in-Early.body w.next_check-in-Early.result w.tell.new.self w.tell.new.sink
+          (sym w.in-Early.ensures.value) above w.next_check-in-Early.ensures.waits w.tell.ensures.ledger w.tell.ensures.sink)
+      | in-Fault w ↦
+          rw (w.result-is, w.ledger-is, w.sink-is)
+          (stepped_fault m g.S.Sink.took l rest n s some within w.in-Fault.defect w.skip.new.self w.pass_quiet.new.ledger w.pass_quiet.result.rest.now w.pass_quiet.result.next w.skip.new.sink
+          (sym w.in-Fault.ensures.value) w.skip.ensures.ledger (passed_from rest 1 w.pass_quiet.ensures.passed) w.pass_quiet.result.some w.pass_quiet.ensures.waits w.skip.ensures.sink)
+      | in-Whole w ↦
+          rw (w.result-is, w.ledger-is, w.sink-is)
+          (stepped_whole m g.S.Sink.took l rest n s some within w.in-Whole.body w.absorb.new.«record» w.accept.new.self w.pass_quiet-in-Whole.new.ledger w.pass_quiet-in-Whole.result.rest.now w.pass_quiet-in-Whole.result.next w.accept.new.sink
+          (sym w.in-Whole.ensures.value) w.absorb.ensures.after w.accept.ensures.ledger (passed_from rest n w.pass_quiet-in-Whole.ensures.passed) w.pass_quiet-in-Whole.result.some w.pass_quiet-in-Whole.ensures.waits w.accept.ensures.sink)
+    ]
 
-pub returns-in-Early : goal.returns-in-Early
-returns-in-Early g c =
-    let m = g.F.Family.model in
-    let bs = c.args.bytes.now in
-    let at = c.args.cursor in
-    let l = c.args.ledger.now in
-    let pre = c.requires in
-    let cut = c.part-prefix.ensures.value in
-    let r = c.next_check-in-Early.result in
-    let above : at.next < r = omega (arith, c.part-prefix.ensures.long, c.next_check-in-Early.ensures.above) in
-    stepped_early m g.S.Sink.took bs l at.place at.next c.args.sink.now pre.within pre.some pre.left pre.bounds
-    c.in-Early.body r c.tell.new.self c.tell.new.sink (sym (c.in-Early.ensures.value ∙ ap m.judge cut)) above (subst (λ x. Waits m x r) cut c.next_check-in-Early.ensures.waits)
-    c.tell.ensures.ledger c.tell.ensures.sink
-
-pub returns-in-Fault : goal.returns-in-Fault
-returns-in-Fault g c =
-    let m = g.F.Family.model in
-    let at = c.args.cursor in
-    let pre = c.requires in
-    let on = c.pass_quiet.ensures in
-    stepped_fault m g.S.Sink.took c.args.bytes.now c.args.ledger.now at.place at.next c.args.sink.now pre.within pre.some pre.left pre.bounds
-    c.in-Fault.defect c.pass_quiet.result.place c.pass_quiet.result.next c.skip.new.self c.pass_quiet.new.ledger c.skip.new.sink
-    (sym (c.in-Fault.ensures.value ∙ ap m.judge c.part-prefix.ensures.value)) c.skip.ensures.ledger on.ledger on.on on.within on.quiet on.some on.waits c.skip.ensures.sink
-
-pub returns-in-Whole : goal.returns-in-Whole
-returns-in-Whole g c =
-    let m = g.F.Family.model in
-    let at = c.args.cursor in
-    let pre = c.requires in
-    let cut = c.part-prefix.ensures.value in
-    let on = c.pass_quiet-in-Whole.ensures in
-    stepped_whole m g.S.Sink.took c.args.bytes.now c.args.ledger.now at.place at.next c.args.sink.now pre.within pre.some pre.left pre.bounds
-    c.in-Whole.body c.pass_quiet-in-Whole.result.place c.pass_quiet-in-Whole.result.next c.absorb.new.«record» c.accept.new.self c.pass_quiet-in-Whole.new.ledger c.accept.new.sink
-    (sym (c.in-Whole.ensures.value ∙ ap m.judge cut)) (c.absorb.ensures.after ∙ ap (m.absorb c.args.ledger.now.«record») cut)
-    c.accept.ensures.ledger on.ledger on.on on.within on.quiet on.some on.waits c.accept.ensures.sink
+pub returns-clause-left : goal.returns-clause-left
+returns-clause-left g c =
+    let rest = c.args.cursor.rest.now in
+    let n = c.args.cursor.next in
+    elim c.match-judge.branch [
+      | in-Wait w ↦ rw w.result-is (left_all rest)
+      | in-Early w ↦ rw w.result-is (left_all rest)
+      | in-Fault w ↦ rw w.result-is (left_behind rest 1 (omega arith) (passed_from rest 1 w.pass_quiet.ensures.passed))
+      | in-Whole w ↦ rw w.result-is (left_behind rest n c.requires.within (passed_from rest n w.pass_quiet-in-Whole.ensures.passed))
+    ]

@@ -1,44 +1,33 @@
-use Rattle.std.proofs.Common.{◌≡◌, ◌+◌, ◌++◌, take, sym, refl, ap, ◌∙◌, subst, arith, take-add}
-use Rattle.std.proofs.lemmas.List.{take_all}
-use Rattle.reader.specs.Standing.{Ran}
+use Rattle.std.proofs.Common.{[], ◌++◌, length, ap, ◌∙◌, sym, arith, rules, append_assoc, length-append}
+use Rattle.std.specs.Slice.Iter.{chunks_rest}
 use Rattle.reader.proofs.Feeding.{ran_none, ran_both}
 use Rattle.reader.proofs.reader.Reader.feed.Goals as goal
 
-pub overflow_sub-self : goal.overflow_sub-self
-overflow_sub-self g c = c.args.self.now.few
-
-pub returns-then-bytes-self : goal.returns-then-bytes-self
-returns-then-bytes-self g c = record { fed = (omega (arith, c.args.self.now.few), refl, refl); counted = tt }
-
-pub loop-at-init : goal.loop-at-init
-loop-at-init g c =
-    record { within = omega arith; pumped = omega arith; ran = ran_none g.F.Family.model g.S.Sink.took c.args.self.now c.args.sink.now }
-
-pub take_in-requires : goal.take_in-requires
-take_in-requires g c = record { fits = omega arith; few = omega (arith, c.args.self.now.few) }
-
-pub loop-at-preserved : goal.loop-at-preserved
-loop-at-preserved g c =
-    let m = g.F.Family.model in
-    let took = g.S.Sink.took in
-    let r = c.args.self.now in
-    let s = c.args.sink.now in
-    let xs = c.args.bytes.now in
-    let at = c.loop-at.at in
-    let n = c.min-n.result in
-    let end = c.take_in.new in
-    let split : take at xs ++ c.part.result.now ≡ take (at + n) xs = ap (λ z. take at xs ++ z) c.part.ensures.value ∙ sym (take-add at n xs) in
+pub loop-block-init : goal.loop-block-init
+loop-block-init g c =
     record {
-      within = omega arith;
-      pumped = omega arith;
-      ran = subst (λ ys. Ran m took r s ys end.self end.sink) split (ran_both m took r s (take at xs) c.loop-at.self c.loop-at.sink c.part.result.now end.self end.sink c.loop-at.invariant.ran c.take_in.ensures.ran);
+      can_next = search rules;
+      is_finite = tt;
+      size = search rules;
+      pumped = search rules;
+      ran = ([], search rules, ran_none g.F.Family.model g.S.Sink.took c.args.self.now c.args.sink.now);
     }
 
-pub returns : goal.returns
-returns g c =
-    let end = c.loop-at in
-    let all = take_all end.at c.args.bytes.now c.loop-at-test.false in
+pub loop-block-preserved : goal.loop-block-preserved
+loop-block-preserved g c =
+    let before = c.loop-block.invariant in
+    let xs = before.ran.0 in
+    let block = c.in-Some.block.now in
+    let left = chunks_rest c.next.new.self in
+    let steps = c.in-Some.ensures.steps in
     record {
-      fed = (omega (arith, c.args.self.now.few), subst (λ ys. Ran g.F.Family.model g.S.Sink.took c.args.self.now c.args.sink.now ys end.self end.sink) all end.invariant.ran);
-      counted = omega arith;
+      can_next = search rules;
+      is_finite = tt;
+      size = search rules;
+      pumped = omega (arith, ap length steps.1.0, length-append block left);
+      ran = (
+        xs ++ block,
+        append_assoc xs block left ∙ ap (λ z. xs ++ z) (sym steps.1.0) ∙ before.ran.1,
+        ran_both g.F.Family.model g.S.Sink.took c.args.self.now c.args.sink.now xs c.loop-block.self c.loop-block.sink block c.take_in.new.self c.take_in.new.sink before.ran.2 c.take_in.ensures.ran,
+      );
     }

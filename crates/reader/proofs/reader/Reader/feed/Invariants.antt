@@ -1,14 +1,15 @@
-use Rattle.std.proofs.Common.{◌≡◌, ◌+◌, ◌-◌, ◌≤◌, length, take}
+use Rattle.std.proofs.Common.{◌≡◌, ℕ, ◌+◌, List, ◌++◌, length}
+use Rattle.std.specs.Slice.Iter.{chunks_rest, chunks_size}
 use Rattle.reader.specs.Standing.{Ran}
 use Rattle.reader.proofs.reader.Reader.feed.Given as goal
 
-abbrev pub invariant-loop-at : goal.invariant-loop-at
-invariant-loop-at g l =
+abbrev pub invariant-loop-block : goal.invariant-loop-block
+invariant-loop-block g l =
+    let left = chunks_rest l.block-iterator in
     record {
-      within : l.at ≤ length l.bytes;
-      pumped : l.self.pumped ≡ l.initial.self.pumped + l.at;
-      ran : Ran g.F.Family.model g.S.Sink.took l.initial.self l.initial.sink (take l.at l.bytes) l.self l.sink;
+      can_next : (goal.iterator-loop-block g).can_next l.block-iterator;
+      is_finite : (goal.iterator-loop-block g).is_finite l.block-iterator;
+      size : chunks_size l.block-iterator ≡ 3832;
+      pumped : l.self.pumped + length left ≡ l.initial.self.pumped + length l.bytes;
+      ran : (xs : List ℕ) × (xs ++ left ≡ l.bytes) × Ran g.F.Family.model g.S.Sink.took l.initial.self l.initial.sink xs l.self l.sink;
     }
-
-abbrev pub decreases-loop-at : goal.decreases-loop-at
-decreases-loop-at g l = length l.bytes - l.at
