@@ -93,24 +93,6 @@ module _ {R S : Type 0} (m : Model R) (took : S → Message → S → Type 0) wh
           read_news bs xs l held s l₁ (bytes w₂) left s' agrees holds end from_held,
         )
 
--- a new ledger
-abbrev pub blank : {R : Type 0} → R → Ledger R
-blank r =
-    record { accepted = 0; skipped = 0; whole = 0; passed = 0; faults = 0; messages = 0; latest = None; «record» = r }
-
-module _ {R : Type 0} (m : Model R) where
-  blank_agrees : (r : R) → r ≡ m.first → Agrees (blank r) (reading m []).tally
-  unfolding reading read
-  blank_agrees r e =
-      record { accepted = refl; skipped = refl; whole = refl; passed = refl; faults = refl; messages = refl; latest = refl; made = e }
-
-  pub new_agrees : (l : Ledger R) (r : R) → l ≡ blank r → r ≡ m.first → Agrees l (reading m []).tally
-  new_agrees l r el e = subst (λ x. Agrees x (reading m []).tally) (sym el) (blank_agrees r e)
-
-  pub new_held : (reading m []).held ≡ []
-  unfolding reading read
-  new_held = refl
-
 module _ {F R S : Type 0} {G : Ghosts F R} (m : Model R) (took : S → Message → S → Type 0) where
   pub ran_none : (r : Reader F R G) (s : S) → Ran m took r s [] r s
   ran_none r s bs st =

@@ -1,12 +1,16 @@
 -- A ledger, which is what a reader keeps of what was read: what each verdict makes of it, and when it agrees with a tally.
-use Rattle.std.specs.Prelude.{◌≡◌, ℕ, ◌+◌, cond, List, [], ◌∷◌, length, replicate, pos, Some, ◌==◌}
+use Rattle.std.specs.Prelude.{◌≡◌, ℕ, ◌+◌, cond, List, [], ◌∷◌, length, None, Some, ◌==◌}
 use Rattle.reading.specs.declared.message.Body.{Body}
 use Rattle.reading.specs.declared.message.Defect.{Defect}
-use Rattle.reading.specs.declared.message.Kind.TheVariants.{Fault as FaultKind}
 use Rattle.reading.specs.declared.message.Message.{Message}
 use Rattle.reader.specs.declared.ledger.Ledger.{Ledger}
 use Rattle.reading.specs.Reading.{Tally, is_passed}
+pub use Rattle.reading.specs.Reading.{fault_body}
 pub use Rattle.reading.specs.Questions.{latest_of}
+
+-- a new ledger
+abbrev pub blank : {R : Type 0} → R → Ledger R
+blank first = record { accepted = 0; skipped = 0; whole = 0; passed = 0; faults = 0; messages = 0; latest = None; «record» = first }
 
 abbrev pub message_of : {R : Type 0} → Ledger R → Body → Message
 message_of l b =
@@ -38,10 +42,6 @@ after_quiet n l =
       latest = l.latest;
       «record» = l.«record»;
     }
-
--- a fault as a body of a message
-abbrev pub fault_body : Defect → Body
-fault_body d = record { kind = FaultKind; code = d.cause; quantities = pos d.found ∷ pos d.expected ∷ replicate 7 (pos 0) }
 
 -- a fault at n bytes
 abbrev pub after_fault : {R : Type 0} → ℕ → Ledger R → Defect → Ledger R

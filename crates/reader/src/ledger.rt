@@ -1,7 +1,6 @@
 // What a reader keeps of what was read: counts, latest message and record.
-ghost use Rattle.std.specs.Prelude.{◌≡◌, ◌+◌, ◌^◌, ◌<◌, [], ◌∷◌, if◌then◌else◌, None, nat_eq};
-ghost use Rattle.reader.specs.Ledgers.{after_telling, after_quiet, after_fault, after_packet, message_of, fault_body, Handed};
-ghost use Rattle.reading.specs.Reading.{is_passed};
+ghost use Rattle.std.specs.Prelude.{◌≡◌, ◌+◌, ◌^◌, ◌<◌, [], ◌∷◌, if◌then◌else◌, nat_eq};
+ghost use Rattle.reader.specs.Ledgers.{blank, after_telling, after_quiet, after_fault, after_packet, message_of, fault_body, Handed};
 
 use reading::message::{Body, Defect, Kind, Message};
 use reading::sink::Sink;
@@ -18,40 +17,9 @@ pub struct Ledger<R> {
     pub record: R,
 }
 
-fn fault_body(defect: Defect) -> Body
-    ensures { result ≡ fault_body defect }
-{
-    let quantities = [
-        defect.found as i64,
-        defect.expected as i64,
-        0,
-        0,
-        0,
-        0,
-        0,
-        0,
-        0,
-    ];
-    Body {
-        kind: Kind::Fault,
-        code: defect.cause,
-        quantities,
-    }
-}
-
-// 1 for a packet that is passed on, else 0.
-fn passing(kind: Kind) -> u64
-    ensures { result ≡ (if is_passed kind then 1 else 0) }
-{
-    match kind {
-        Kind::Passed => 1,
-        Kind::Inertial | Kind::Solution | Kind::Status | Kind::Fault => 0,
-    }
-}
-
 impl<R> Ledger<R> {
-    pub(crate) fn new(record: R) -> Ledger<R>
-        ensures { result ≡ record { accepted = 0; skipped = 0; whole = 0; passed = 0; faults = 0; messages = 0; latest = None; «record» = «record» } }
+    pub(crate) fn new(first: R) -> Ledger<R>
+        ensures { result ≡ blank first }
     {
         Ledger {
             accepted: 0,
@@ -61,7 +29,7 @@ impl<R> Ledger<R> {
             faults: 0,
             messages: 0,
             latest: None,
-            record,
+            record: first,
         }
     }
 
@@ -101,7 +69,7 @@ impl<R> Ledger<R> {
         ensures sink { Handed S.took sink.old (if nat_eq n 1 then [] else message_of self.old (fault_body defect) ∷ []) sink.new }
     {
         if n != 1 {
-            self.tell(fault_body(defect), sink);
+            self.tell(Body::from(defect), sink);
             self.faults += 1;
         }
         self.skipped += 1;
@@ -119,6 +87,6 @@ impl<R> Ledger<R> {
         self.tell(body, sink);
         self.accepted += n as u64;
         self.whole += 1;
-        self.passed += passing(body.kind);
+        self.passed += u64::from(body.kind == Kind::Passed);
     }
 }

@@ -91,8 +91,12 @@ next_message t k c qs =
 abbrev pub body_message : {R : Type 0} → Tally R → Body → Message
 body_message t b = next_message t b.kind b.code b.quantities
 
+-- a fault as a body of a message
+abbrev pub fault_body : Defect → Body
+fault_body d = record { kind = FaultKind; code = d.cause; quantities = pos d.found ∷ pos d.expected ∷ replicate 7 (pos 0) }
+
 abbrev pub fault_message : {R : Type 0} → Tally R → Defect → Message
-fault_message t d = next_message t FaultKind d.cause (pos d.found ∷ pos d.expected ∷ replicate 7 (pos 0))
+fault_message t d = body_message t (fault_body d)
 
 -- a message early in a packet
 abbrev pub told : {R : Type 0} → Body → Tally R → Tally R

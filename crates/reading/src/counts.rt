@@ -18,21 +18,19 @@ pub struct Counts {
 
 impl fmt::Display for Counts {
     fn fmt<W: fmt::Write>(&self, f: &mut fmt::Formatter<W>) -> fmt::Result {
-        let pumped = self.pumped;
-        let accepted = self.accepted;
-        let skipped = self.skipped;
-        let held = self.held;
-        let whole = self.whole;
-        let passed = self.passed;
-        let faults = self.faults;
-        let messages = self.messages;
+        let Counts {
+            pumped,
+            accepted,
+            skipped,
+            held,
+            whole,
+            passed,
+            faults,
+            messages,
+        } = *self;
         write!(
             f,
-            "pumped {pumped} accepted {accepted} skipped {skipped} held {held}"
-        )?;
-        write!(
-            f,
-            " whole {whole} passed {passed} faults {faults} messages {messages}"
+            "pumped {pumped} accepted {accepted} skipped {skipped} held {held} whole {whole} passed {passed} faults {faults} messages {messages}"
         )
     }
 }

@@ -1,6 +1,7 @@
 // What a family says of bytes, and the messages that a reading makes of it.
 ghost use Rattle.std.specs.Prelude.{◌≡◌};
 ghost use Rattle.reading.specs.Kinds.{kind_bit};
+ghost use Rattle.reading.specs.Reading.{fault_body};
 
 use std::fmt;
 
@@ -23,6 +24,7 @@ impl Kind {
 }
 
 // What a family tells of a packet: a message without number and place.
+// The code is a plain number here and in a message: its kind gives what it means.
 #[derive(Clone, Copy, PartialEq, Eq, Debug)]
 pub struct Body {
     pub kind: Kind,
@@ -31,11 +33,26 @@ pub struct Body {
 }
 
 // Why bytes are no packet: the cause, the byte found, and the value expected there.
+// The cause is a plain number: each family brings its own, which the reading does not know.
 #[derive(Clone, Copy, PartialEq, Eq, Debug)]
 pub struct Defect {
     pub cause: u8,
     pub found: u8,
     pub expected: u8,
+}
+
+impl From<Defect> for Body {
+    ghost from_gives = { λ defect body. body ≡ fault_body defect };
+
+    fn from(defect: Defect) -> Body {
+        let found = i64::from(defect.found);
+        let expected = i64::from(defect.expected);
+        Body {
+            kind: Kind::Fault,
+            code: defect.cause,
+            quantities: [found, expected, 0, 0, 0, 0, 0, 0, 0],
+        }
+    }
 }
 
 // What a family says of the first bytes at a place.
@@ -63,13 +80,13 @@ pub struct Message {
 
 impl fmt::Display for Message {
     fn fmt<W: fmt::Write>(&self, f: &mut fmt::Formatter<W>) -> fmt::Result {
-        let number = self.number;
-        let kind = self.kind.bit();
-        let place = self.place;
-        let code = self.code;
         write!(
             f,
-            "message {number} kind {kind} place {place} code {code} :"
+            "message {} kind {} place {} code {} :",
+            self.number,
+            self.kind.bit(),
+            self.place,
+            self.code
         )?;
         for quantity in &self.quantities {
             write!(f, " {quantity}")?;
