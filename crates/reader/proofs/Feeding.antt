@@ -1,69 +1,42 @@
 -- One step after another, and what a byte more does.
-use Rattle.std.proofs.Common.{◌≡◌, ℕ, ◌-◌, ◌<◌, ◌≤◌, List, [], ◌++◌, length, drop, None, sym, refl, ap, ◌∙◌, subst, append_assoc, arith, length-append, length-drop}
+use Rattle.std.proofs.Common.{◌≡◌, ℕ, ◌-◌, ◌<◌, ◌≤◌, List, [], ◌++◌, length, drop, sym, refl, ap, ◌∙◌, subst, append_assoc, arith, length-append, length-drop}
 use Rattle.std.proofs.lemmas.List.{append-nil, length-take-le, take_at}
 use Rattle.reading.specs.declared.family.Family.{Ghosts}
 use Rattle.reading.specs.declared.message.Message.{Message}
 use Rattle.reader.specs.declared.ledger.Ledger.{Ledger}
 use Rattle.reader.specs.declared.window.Window.{Window}
 use Rattle.reader.specs.declared.reader.Reader.{Reader}
-use Rattle.reading.specs.Reading.{Model, Laws, reading, read, resumed, Waits}
+use Rattle.reading.specs.Reading.{Model, Laws, reading, resumed, Waits}
 use Rattle.reader.specs.Held.{bytes}
 use Rattle.reader.specs.Ledgers.{Agrees}
-use Rattle.reader.specs.Progress.{Moved, Moves}
-use Rattle.reader.specs.Standing.{Stands, News}
+use Rattle.reader.specs.Progress.{Moves}
+use Rattle.reader.specs.Standing.{News}
 use Rattle.reader.specs.Standing.{Ran}
 use Rattle.reading.proofs.Steps.{stop, resumed_ends, reading_more}
-use Rattle.reader.proofs.Moves.{handed_both, moves_both, moves_waits}
+use Rattle.reader.proofs.Moves.{handed_both, moves_both, moves_still, moves_waits}
 use Rattle.reading.proofs.Opens.{held_short}
 
 module _ {R S : Type 0} (m : Model R) (took : S → Message → S → Type 0) where
-  pub moves_none : (l : Ledger R) (w : List ℕ) (n : ℕ) (s : S) → Moves m took l w n s l w n s
-  moves_none l w n s t a =
-      record { now_read = t; agrees = a; same = refl; news = []; told = sym (append-nil t.messages); handed = refl }
-
   -- all that is left is judged
-  pub moves_end : (l : Ledger R) (w : List ℕ) (n : ℕ) (s : S) (l' : Ledger R) (w' : List ℕ) (n' k : ℕ) (s' : S) → length w' ≤ n' → length w' ≤ k →
-      Moves m took l w n s l' w' n' s' → Moves m took l w n s l' w' k s'
-  moves_end l w n s l' w' n' k s' h j f t a =
-      let x = f t a in
-      record {
-        now_read = x.now_read;
-        agrees = x.agrees;
-        same = x.same ∙ resumed_ends m x.now_read n' w' h ∙ sym (resumed_ends m x.now_read k w' j);
-        news = x.news;
-        told = x.told;
-        handed = x.handed;
-      }
+  pub moves_end : {l : Ledger R} {w : List ℕ} {n : ℕ} {s : S} {l' : Ledger R} {w' : List ℕ} {n' : ℕ} {s' : S} → length w' ≤ n' →
+      Moves m took l w n s l' w' n' s' → Moves m took l w n s l' w' (length w') s'
+  moves_end {w' = w'} {n' = n'} h f = moves_both m took f (moves_still m took (λ t. resumed_ends m t n' w' h ∙ sym (resumed_ends m t (length w') w' (omega arith))))
 
   -- A ledger and the bytes held that are those of the reading of bs, once xs are behind those bytes and all is judged, are what the reading of bs ++ xs says.
-  module _ (bs xs : List ℕ) (l : Ledger R) (held : List ℕ) (s : S) (l' : Ledger R) (rest : List ℕ) (k : ℕ) (s' : S)
-      (agrees : Agrees l (reading m bs).tally) (holds : held ≡ (reading m bs).held) (ended : length rest ≤ k)
-      (moves : Moves m took l (held ++ xs) (length held) s l' rest k s') where
-    abbrev moved : Moved m took (reading m bs).tally (held ++ xs) (length held) s l' rest k s'
-    moved = moves (reading m bs).tally agrees
-
-    pub read_on : reading m (bs ++ xs) ≡ stop moved.now_read rest
-    read_on =
-        reading_more m bs xs ∙ ap (λ z. resumed m (reading m bs).tally (length z) (z ++ xs)) (sym holds) ∙ moved.same ∙ resumed_ends m moved.now_read k rest ended
-
-    pub read_agrees : Agrees l' (reading m (bs ++ xs)).tally
-    read_agrees = subst (λ r. Agrees l' r.tally) (sym read_on) moved.agrees
-
-    pub read_held : rest ≡ (reading m (bs ++ xs)).held
-    read_held = sym (ap (λ r. r.held) read_on)
-
-    pub read_news : News m bs (bs ++ xs) took s s'
-    read_news = record { messages = moved.news; beyond = ap (λ r. r.tally.messages) read_on ∙ moved.told; handed = moved.handed }
-
-    pub read_short : Laws m → length rest < 264
-    read_short laws =
-        let short = held_short m laws (bs ++ xs) in
-        let most = laws.at_most in
-        let e = ap length read_held in
-        omega arith
+  read_on : (bs xs : List ℕ) {held rest : List ℕ} {l l' : Ledger R} {k : ℕ} {s s' : S} →
+      Agrees l (reading m bs).tally → held ≡ (reading m bs).held → length rest ≤ k → Moves m took l (held ++ xs) (length held) s l' rest k s' →
+      (rest ≡ (reading m (bs ++ xs)).held) × Agrees l' (reading m (bs ++ xs)).tally × News m bs (bs ++ xs) took s s'
+  read_on bs xs {rest = rest} {l' = l'} {k = k} agrees holds ended moves =
+      let x = moves (reading m bs).tally agrees in
+      let e : reading m (bs ++ xs) ≡ stop x.now_read rest =
+      reading_more m bs xs ∙ ap (λ z. resumed m (reading m bs).tally (length z) (z ++ xs)) (sym holds) ∙ x.same ∙ resumed_ends m x.now_read k rest ended in (
+        sym (ap (λ r. r.held) e),
+        subst (λ r. Agrees l' r.tally) (sym e) x.agrees,
+        record { messages = x.news; beyond = ap (λ r. r.tally.messages) e ∙ x.told; handed = x.handed },
+      )
 
   -- What a block does to a reader that holds `held`: w₁ is the window behind which the block stands, w₂ and l₁ are what the scan leaves, and w₃ and l₃ are the same where less is left than the longest packet has.
-  module _ (laws : Laws m) (l : Ledger R) (held xs all : List ℕ) (next : ℕ) (s : S) (l₁ : Ledger R) (left : ℕ) (s' : S) (w₁ w₂ w₃ : Window) (l₃ : Ledger R)
+  module _ (laws : Laws m) (w₁ : Window) {w₂ w₃ : Window} {l l₁ l₃ : Ledger R} (xs : List ℕ) {held all : List ℕ} {next left : ℕ} {s s' : S}
       (joined : bytes w₁ ≡ held ++ xs) (is_all : all ≡ bytes w₁) (above : length held < next) (waits : Waits m held next) (within : left ≤ length all)
       (moves : Moves m took l all (next - 1) s l₁ (drop (length all - left) all) left s')
       (cut : bytes w₂ ≡ drop (w₁.held - left) (bytes w₁)) (size : w₂.held ≡ left) (kept : w₂.held < 264 → (w₃ ≡ w₂) × (l₃ ≡ l₁)) where
@@ -72,39 +45,34 @@ module _ {R S : Type 0} (m : Model R) (took : S → Message → S → Type 0) wh
         let long : length (bytes w₁) ≡ w₁.held = length-take-le w₁.held w₁.buffer (omega (arith, w₁.full, w₁.few)) in
         rw (is_all, long) (sym cut)
 
-    ended : length (bytes w₂) ≡ left
-    ended = ap length (sym is_rest) ∙ simp length-drop (omega arith)
-
     from_held : Moves m took l (held ++ xs) (length held) s l₁ (bytes w₂) left s'
     from_held =
         let front = take_at held xs (length held) refl in
         let long = length-append held xs in
-        moves_both m took (moves_waits m took l (held ++ xs) s (length held) next above (omega arith) (rw front waits))
+        moves_both m took (moves_waits m took (length held) next above (omega arith) (rw front waits))
         (subst (λ z. Moves m took l z (next - 1) s l₁ (bytes w₂) left s') (is_all ∙ joined) (rw is_rest at moves))
 
     pub taken : (bs : List ℕ) → held ≡ (reading m bs).held → Agrees l (reading m bs).tally →
         (bytes w₃ ≡ (reading m (bs ++ xs)).held) × Agrees l₃ (reading m (bs ++ xs)).tally × News m bs (bs ++ xs) took s s'
     taken bs holds agrees =
-        let end : length (bytes w₂) ≤ left = omega (arith, ended) in
-        let short = read_short bs xs l held s l₁ (bytes w₂) left s' agrees holds end from_held laws in
-        let same = kept (omega (arith, ended, short)) in (
-          ap bytes same.0 ∙ read_held bs xs l held s l₁ (bytes w₂) left s' agrees holds end from_held,
-          subst (λ z. Agrees z (reading m (bs ++ xs)).tally) (sym same.1) (read_agrees bs xs l held s l₁ (bytes w₂) left s' agrees holds end from_held),
-          read_news bs xs l held s l₁ (bytes w₂) left s' agrees holds end from_held,
-        )
+        let long : length (bytes w₂) ≡ left = ap length (sym is_rest) ∙ simp length-drop (omega arith) in
+        let end : length (bytes w₂) ≤ left = omega arith in
+        let done = read_on bs xs agrees holds end from_held in
+        let same = kept (omega (arith, ap length done.0, held_short m laws (bs ++ xs), laws.at_most)) in
+        (ap bytes same.0 ∙ done.0, rw same.1 done.1, done.2)
 
 module _ {F R S : Type 0} {G : Ghosts F R} (m : Model R) (took : S → Message → S → Type 0) where
-  pub ran_none : (r : Reader F R G) (s : S) → Ran m took r s [] r s
-  ran_none r s bs st =
+  pub ran_none : {r : Reader F R G} {s : S} → Ran m took r s [] r s
+  ran_none bs st =
       let e = append-nil bs in
       (rw e st, record { messages = []; beyond = rw e (sym (append-nil (reading m bs).tally.messages)); handed = refl })
 
-  pub ran_both : (r : Reader F R G) (s : S) (xs : List ℕ) (r₁ : Reader F R G) (s₁ : S) (ys : List ℕ) (r₂ : Reader F R G) (s₂ : S) → Ran m took r s xs r₁ s₁ → Ran m took r₁ s₁ ys r₂ s₂ → Ran m took r s (xs ++ ys) r₂ s₂
-  ran_both r s xs r₁ s₁ ys r₂ s₂ f g bs st =
+  pub ran_both : {r r₁ r₂ : Reader F R G} {s s₁ s₂ : S} {xs ys : List ℕ} → Ran m took r s xs r₁ s₁ → Ran m took r₁ s₁ ys r₂ s₂ → Ran m took r s (xs ++ ys) r₂ s₂
+  ran_both {r₂ = r₂} {s = s} {s₁ = s₁} {s₂ = s₂} {xs = xs} {ys = ys} f g bs st =
       let x = f bs st in
       let y = g (bs ++ xs) x.0 in
       let e = append_assoc bs xs ys in (
-        subst (λ z. Stands m r₂ z) e y.0,
+        rw e at y.0,
         record {
           messages = x.1.messages ++ y.1.messages;
           beyond = ap (λ z. (reading m z).tally.messages) (sym e) ∙ y.1.beyond ∙ ap (λ z. z ++ y.1.messages) x.1.beyond ∙ append_assoc (reading m bs).tally.messages x.1.messages y.1.messages;

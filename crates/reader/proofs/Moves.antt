@@ -1,5 +1,5 @@
 -- What one verdict does to the ledger, the window and the sink is what it does to the reading.
-use Rattle.std.proofs.Common.{◌≡◌, ℕ, zero, suc, ◌+◌, ◌-◌, ◌<◌, ◌≤◌, Bool, true, false, cond, eqb, List, [], ◌∷◌, ◌++◌, length, take, drop, Some, sym, refl, ap, ◌∙◌, subst, append_assoc, add-zero, arith}
+use Rattle.std.proofs.Common.{◌≡◌, ℕ, zero, suc, ◌+◌, ◌-◌, ◌<◌, ◌≤◌, Bool, true, false, cond, eqb, List, [], ◌∷◌, ◌++◌, length, take, drop, Some, sym, refl, ap, ◌∙◌, append_assoc, add-zero, arith, rules}
 use Rattle.std.proofs.lemmas.List.{append-nil, length_push, length-take-le}
 use Rattle.reading.specs.declared.message.Body.{Body}
 use Rattle.reading.specs.declared.message.Defect.{Defect}
@@ -7,7 +7,7 @@ use Rattle.reading.specs.declared.message.Message.{Message}
 use Rattle.reading.specs.declared.message.Verdict.{Verdict}
 use Rattle.reading.specs.declared.message.Verdict.TheVariants.{Wait, Early, Fault, Whole}
 use Rattle.reader.specs.declared.ledger.Ledger.{Ledger}
-use Rattle.reading.specs.Reading.{Model, Tally, told, faulted, completed, body_message, fault_message, passed_over, is_passed, ruled, resumed, Waits}
+use Rattle.reading.specs.Reading.{Model, Tally, told, faulted, completed, body_message, fault_message, passed_over, ruled, resumed, Waits}
 use Rattle.reader.specs.Ledgers.{message_of, after_telling, after_quiet, fault_body, after_fault, after_packet, latest_of, Agrees, Handed}
 use Rattle.reader.specs.Progress.{PassedOver, Moves}
 use Rattle.reading.proofs.Steps.{resumed_step}
@@ -30,17 +30,7 @@ module _ {R : Type 0} (l : Ledger R) (t : Tally R) (a : Agrees l t) where
   said_number b = ap (λ n. n + 1) a.messages ∙ sym (length_push t.messages (body_message t b))
 
   agrees_told : (b : Body) → Agrees (after_telling l b) (told b t)
-  agrees_told b =
-      record {
-        accepted = a.accepted;
-        skipped = a.skipped;
-        whole = a.whole;
-        passed = a.passed;
-        faults = a.faults;
-        messages = said_number b;
-        latest = said_latest b;
-        made = a.made;
-      }
+  agrees_told b = let n = said_number b in let x = said_latest b in search rules
 
   fault_number : (d : Defect) (first : Bool) → l.messages + cond first 0 1 ≡ length (t.messages ++ cond first [] (fault_message t d ∷ []))
   fault_number d true = add-zero l.messages ∙ a.messages ∙ sym (ap length (append-nil t.messages))
@@ -53,58 +43,25 @@ module _ {R : Type 0} (l : Ledger R) (t : Tally R) (a : Agrees l t) where
 
   agrees_faulted : (n : ℕ) (d : Defect) → Agrees (after_fault n l d) (faulted n d t)
   agrees_faulted n d =
-      record {
-        accepted = a.accepted;
-        skipped = ap (λ x. x + 1) a.skipped;
-        whole = a.whole;
-        passed = a.passed;
-        faults = ap (λ x. x + cond (eqb n 1) 0 1) a.faults;
-        messages = fault_number d (eqb n 1);
-        latest = fault_latest d (eqb n 1);
-        made = a.made;
-      }
+      let x = fault_number d (eqb n 1) in let y = fault_latest d (eqb n 1) in search rules
+
+  handed_fault : {S : Type 0} (took : S → Message → S → Type 0) (d : Defect) (first : Bool) (s s' : S) → Handed took s (cond first [] (message_of l (fault_body d) ∷ [])) s' →
+      Handed took s (cond first [] (fault_message t d ∷ [])) s'
+  handed_fault took d true s s' h = h
+  handed_fault took d false s s' h = (h.0, rw (said (fault_body d)) at h.1, h.2)
 
 -- a ledger with another record
 abbrev pub with_record : {R : Type 0} → Ledger R → R → Ledger R
-with_record l r =
-    record {
-      accepted = l.accepted;
-      skipped = l.skipped;
-      whole = l.whole;
-      passed = l.passed;
-      faults = l.faults;
-      messages = l.messages;
-      latest = l.latest;
-      «record» = r;
-    }
+with_record l r = record l { «record» = r }
 
 agrees_completed : {R : Type 0} (m : Model R) (l : Ledger R) (t : Tally R) (r : R) (n : ℕ) (packet : List ℕ) (b : Body) → Agrees l t → n ≡ length packet → r ≡ m.absorb l.«record» packet →
     Agrees (after_packet n (with_record l r) b) (completed m packet b t)
 agrees_completed m l t r n packet b a long made =
-    record {
-      accepted = (λ i. a.accepted i + long i);
-      skipped = a.skipped;
-      whole = ap (λ x. x + 1) a.whole;
-      passed = ap (λ x. x + cond (is_passed b.kind) 1 0) a.passed;
-      faults = a.faults;
-      messages = said_number l t a b;
-      latest = said_latest l t a b;
-      made = made ∙ ap (λ x. m.absorb x packet) a.made;
-    }
+    let x = said_number l t a b in let y = said_latest l t a b in search rules
 
 -- a ledger that passed over n bytes
 agrees_quiet : {R : Type 0} (l : Ledger R) (t : Tally R) (n : ℕ) → Agrees l t → Agrees (after_quiet n l) (passed_over n t)
-agrees_quiet l t n a =
-    record {
-      accepted = a.accepted;
-      skipped = ap (λ x. x + n) a.skipped;
-      whole = a.whole;
-      passed = a.passed;
-      faults = a.faults;
-      messages = a.messages;
-      latest = a.latest;
-      made = a.made;
-    }
+agrees_quiet l t n a = search rules
 
 -- the prefix of `next` bytes is judged
 checked : {R : Type 0} (m : Model R) (t : Tally R) (next : ℕ) (rest : List ℕ) (v : Verdict) → 1 ≤ next → next ≤ length rest → m.judge (take next rest) ≡ v →
@@ -132,85 +89,70 @@ module _ {R S : Type 0} (m : Model R) (took : S → Message → S → Type 0) wh
         handed = handed_both took s x.news s₁ y.news s₂ x.handed y.handed;
       }
 
-  -- the lengths up to the next check are judged to wait
-  pub moves_waits : (l : Ledger R) (rest : List ℕ) (s : S) (n r : ℕ) → n < r → n ≤ length rest → Waits m (take n rest) r → Moves m took l rest n s l rest (r - 1) s
-  moves_waits l rest s n r above within waits t a =
-      record { now_read = t; agrees = a; same = jumped m t n r rest above within waits; news = []; told = sym (append-nil t.messages); handed = refl }
+  -- the reading goes on behind k prefixes as it does behind n
+  pub moves_still : {l : Ledger R} {w : List ℕ} {n k : ℕ} {s : S} → ((t : Tally R) → resumed m t n w ≡ resumed m t k w) → Moves m took l w n s l w k s
+  moves_still same t a = record { now_read = t; agrees = a; same = same t; news = []; told = sym (append-nil t.messages); handed = refl }
 
-  moves_over : (l : Ledger R) (rest : List ℕ) (s : S) (l' : Ledger R) (rest' : List ℕ) → PassedOver m l rest l' rest' → Moves m took l rest 0 s l' rest' 0 s
-  moves_over l rest s l' rest' p t a =
-      record {
+  -- the lengths up to the next check are judged to wait
+  pub moves_waits : {l : Ledger R} {rest : List ℕ} {s : S} (n r : ℕ) → n < r → n ≤ length rest → Waits m (take n rest) r → Moves m took l rest n s l rest (r - 1) s
+  moves_waits {rest = rest} n r above within waits = moves_still (λ t. jumped m t n r rest above within waits)
+
+  -- past bytes that are at fault alone, to the first check at the next place
+  moves_on : {l : Ledger R} {rest : List ℕ} {s : S} {l' : Ledger R} {rest' : List ℕ} (r : ℕ) → PassedOver m l rest l' rest' → 1 ≤ r → Waits m [] r → Moves m took l rest 0 s l' rest' (r - 1) s
+  moves_on {l = l} {rest = rest} {s = s} {l' = l'} {rest' = rest'} r p first waits =
+      let over : Moves m took l rest 0 s l' rest' 0 s = λ t a. record {
         now_read = passed_over p.many t;
-        agrees = subst (λ x. Agrees x (passed_over p.many t)) (sym p.skipped) (agrees_quiet l t p.many a);
+        agrees = rw p.skipped (agrees_quiet l t p.many a);
         same = quieted m p.many t rest p.within p.quiet ∙ ap (λ x. resumed m (passed_over p.many t) 0 x) (sym p.behind);
         news = [];
         told = sym (append-nil t.messages);
         handed = refl;
-      }
+      } in
+      moves_both over (moves_waits 0 r first (omega arith) waits)
 
-  -- past bytes that are at fault alone, to the first check at the next place
-  moves_on : (l : Ledger R) (rest : List ℕ) (s : S) (l' : Ledger R) (rest' : List ℕ) (r : ℕ) → PassedOver m l rest l' rest' → 1 ≤ r → Waits m [] r → Moves m took l rest 0 s l' rest' (r - 1) s
-  moves_on l rest s l' rest' r p first waits = moves_both (moves_over l rest s l' rest' p) (moves_waits l' rest' s 0 r first (omega arith) waits)
+  -- The prefix of `next` bytes is judged, and the work goes on to the next check.
+  module _ {l : Ledger R} {rest : List ℕ} {next : ℕ} {s : S} (some : 1 ≤ next) (within : next ≤ length rest) where
+    pub stepped_wait : {r : ℕ} → m.judge (take next rest) ≡ Wait → next < r → Waits m (take next rest) r → Moves m took l rest (next - 1) s l rest (r - 1) s
+    stepped_wait {r = r} e above waits = moves_both (moves_still (λ t. checked m t next rest Wait some within e)) (moves_waits next r above within waits)
 
-  module _ (l : Ledger R) (rest : List ℕ) (next : ℕ) (s : S) (some : 1 ≤ next) (within : next ≤ length rest) where
-    moves_wait : m.judge (take next rest) ≡ Wait → Moves m took l rest (next - 1) s l rest next s
-    moves_wait e t a = record { now_read = t; agrees = a; same = checked m t next rest Wait some within e; news = []; told = sym (append-nil t.messages); handed = refl }
-
-    moves_early : (b : Body) (l' : Ledger R) (s' : S) → m.judge (take next rest) ≡ Early b → l' ≡ after_telling l b → took s (message_of l b) s' → Moves m took l rest (next - 1) s l' rest next s'
-    moves_early b l' s' e el h t a =
-        record {
+    pub stepped_early : {b : Body} {r : ℕ} {l' : Ledger R} {s' : S} → m.judge (take next rest) ≡ Early b → next < r → Waits m (take next rest) r →
+        l' ≡ after_telling l b → took s (message_of l b) s' → Moves m took l rest (next - 1) s l' rest (r - 1) s'
+    stepped_early {b = b} {r = r} {l' = l'} {s' = s'} e above waits el h =
+        let judged : Moves m took l rest (next - 1) s l' rest next s' = λ t a. record {
           now_read = told b t;
           agrees = rw el (agrees_told l t a b);
           same = checked m t next rest (Early b) some within e;
           news = body_message t b ∷ [];
           told = refl;
           handed = (s', rw (said l t a b) at h, refl);
-        }
+        } in
+        moves_both judged (moves_waits next r above within waits)
 
-    handed_fault : (t : Tally R) (a : Agrees l t) (d : Defect) (first : Bool) (s' : S) → Handed took s (cond first [] (message_of l (fault_body d) ∷ [])) s' →
-        Handed took s (cond first [] (fault_message t d ∷ [])) s'
-    handed_fault t a d true s' h = h
-    handed_fault t a d false s' h = (h.0, rw (said l t a (fault_body d)) at h.1, h.2)
-
-    moves_fault : (d : Defect) (l' : Ledger R) (s' : S) → m.judge (take next rest) ≡ Fault d → l' ≡ after_fault next l d →
-        Handed took s (cond (eqb next 1) [] (message_of l (fault_body d) ∷ [])) s' → Moves m took l rest (next - 1) s l' (drop 1 rest) 0 s'
-    moves_fault d l' s' e el h t a =
-        record {
+    pub stepped_fault : {d : Defect} {l₁ l' : Ledger R} {rest' : List ℕ} {r : ℕ} {s' : S} → m.judge (take next rest) ≡ Fault d → l₁ ≡ after_fault next l d →
+        PassedOver m l₁ (drop 1 rest) l' rest' → 1 ≤ r → Waits m [] r →
+        Handed took s (cond (eqb next 1) [] (message_of l (fault_body d) ∷ [])) s' → Moves m took l rest (next - 1) s l' rest' (r - 1) s'
+    stepped_fault {d = d} {l₁ = l₁} {r = r} {s' = s'} e el p first waits h =
+        let judged : Moves m took l rest (next - 1) s l₁ (drop 1 rest) 0 s' = λ t a. record {
           now_read = faulted next d t;
           agrees = rw el (agrees_faulted l t a next d);
           same = checked m t next rest (Fault d) some within e;
           news = cond (eqb next 1) [] (fault_message t d ∷ []);
           told = refl;
-          handed = handed_fault t a d (eqb next 1) s' h;
-        }
+          handed = handed_fault l t a took d (eqb next 1) s s' h;
+        } in
+        moves_both judged (moves_on r p first waits)
 
-    moves_whole : (b : Body) (made : R) (l' : Ledger R) (s' : S) → m.judge (take next rest) ≡ Whole b → made ≡ m.absorb l.«record» (take next rest) →
-        l' ≡ after_packet next (with_record l made) b → took s (message_of l b) s' → Moves m took l rest (next - 1) s l' (drop next rest) 0 s'
-    moves_whole b made l' s' e makes el h t a =
+    pub stepped_whole : {b : Body} {made : R} {l₁ l' : Ledger R} {rest' : List ℕ} {r : ℕ} {s' : S} → m.judge (take next rest) ≡ Whole b → made ≡ m.absorb l.«record» (take next rest) →
+        l₁ ≡ after_packet next (with_record l made) b → PassedOver m l₁ (drop next rest) l' rest' → 1 ≤ r → Waits m [] r →
+        took s (message_of l b) s' → Moves m took l rest (next - 1) s l' rest' (r - 1) s'
+    stepped_whole {b = b} {made = made} {l₁ = l₁} {r = r} {s' = s'} e makes el p first waits h =
         let packet : List ℕ = take next rest in
-        record {
+        let judged : Moves m took l rest (next - 1) s l₁ (drop next rest) 0 s' = λ t a. record {
           now_read = completed m packet b t;
           agrees = rw el (agrees_completed m l t made next packet b a (sym (length-take-le next rest within)) makes);
           same = checked m t next rest (Whole b) some within e;
           news = body_message t b ∷ [];
           told = refl;
           handed = (s', rw (said l t a b) at h, refl);
-        }
-
-    -- The prefix is judged, and the work goes on to the next check.
-    pub stepped_wait : (r : ℕ) → m.judge (take next rest) ≡ Wait → next < r → Waits m (take next rest) r → Moves m took l rest (next - 1) s l rest (r - 1) s
-    stepped_wait r e above waits = moves_both (moves_wait e) (moves_waits l rest s next r above within waits)
-
-    pub stepped_early : (b : Body) (r : ℕ) (l' : Ledger R) (s' : S) → m.judge (take next rest) ≡ Early b → next < r → Waits m (take next rest) r →
-        l' ≡ after_telling l b → took s (message_of l b) s' → Moves m took l rest (next - 1) s l' rest (r - 1) s'
-    stepped_early b r l' s' e above waits el h = moves_both (moves_early b l' s' e el h) (moves_waits l' rest s' next r above within waits)
-
-    pub stepped_fault : (d : Defect) (l₁ l' : Ledger R) (rest' : List ℕ) (r : ℕ) (s' : S) → m.judge (take next rest) ≡ Fault d → l₁ ≡ after_fault next l d →
-        PassedOver m l₁ (drop 1 rest) l' rest' → 1 ≤ r → Waits m [] r →
-        Handed took s (cond (eqb next 1) [] (message_of l (fault_body d) ∷ [])) s' → Moves m took l rest (next - 1) s l' rest' (r - 1) s'
-    stepped_fault d l₁ l' rest' r s' e el p first waits h = moves_both (moves_fault d l₁ s' e el h) (moves_on l₁ (drop 1 rest) s' l' rest' r p first waits)
-
-    pub stepped_whole : (b : Body) (made : R) (l₁ l' : Ledger R) (rest' : List ℕ) (r : ℕ) (s' : S) → m.judge (take next rest) ≡ Whole b → made ≡ m.absorb l.«record» (take next rest) →
-        l₁ ≡ after_packet next (with_record l made) b → PassedOver m l₁ (drop next rest) l' rest' → 1 ≤ r → Waits m [] r →
-        took s (message_of l b) s' → Moves m took l rest (next - 1) s l' rest' (r - 1) s'
-    stepped_whole b made l₁ l' rest' r s' e makes el p first waits h = moves_both (moves_whole b made l₁ s' e makes el h) (moves_on l₁ (drop next rest) s' l' rest' r p first waits)
+        } in
+        moves_both judged (moves_on r p first waits)

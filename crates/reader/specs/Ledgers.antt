@@ -17,59 +17,26 @@ message_of l b =
     record { kind = b.kind; number = l.messages + 1; place = l.accepted + l.skipped; code = b.code; quantities = b.quantities }
 
 abbrev pub after_telling : {R : Type 0} → Ledger R → Body → Ledger R
-after_telling l b =
-    record {
-      accepted = l.accepted;
-      skipped = l.skipped;
-      whole = l.whole;
-      passed = l.passed;
-      faults = l.faults;
-      messages = l.messages + 1;
-      latest = Some (message_of l b);
-      «record» = l.«record»;
-    }
+after_telling l b = record l { messages = l.messages + 1; latest = Some (message_of l b) }
 
 -- n faults at 1 byte
 abbrev pub after_quiet : {R : Type 0} → ℕ → Ledger R → Ledger R
-after_quiet n l =
-    record {
-      accepted = l.accepted;
-      skipped = l.skipped + n;
-      whole = l.whole;
-      passed = l.passed;
-      faults = l.faults;
-      messages = l.messages;
-      latest = l.latest;
-      «record» = l.«record»;
-    }
+after_quiet n l = record l { skipped = l.skipped + n }
 
 -- a fault at n bytes
 abbrev pub after_fault : {R : Type 0} → ℕ → Ledger R → Defect → Ledger R
 after_fault n l d =
-    record {
-      accepted = l.accepted;
+    record l {
       skipped = l.skipped + 1;
-      whole = l.whole;
-      passed = l.passed;
       faults = l.faults + cond (n == 1) 0 1;
       messages = l.messages + cond (n == 1) 0 1;
       latest = cond (n == 1) l.latest (Some (message_of l (fault_body d)));
-      «record» = l.«record»;
     }
 
 -- a whole packet of n bytes, once its bytes are absorbed
 abbrev pub after_packet : {R : Type 0} → ℕ → Ledger R → Body → Ledger R
 after_packet n l b =
-    record {
-      accepted = l.accepted + n;
-      skipped = l.skipped;
-      whole = l.whole + 1;
-      passed = l.passed + cond (is_passed b.kind) 1 0;
-      faults = l.faults;
-      messages = l.messages + 1;
-      latest = Some (message_of l b);
-      «record» = l.«record»;
-    }
+    record (after_telling l b) { accepted = l.accepted + n; whole = l.whole + 1; passed = l.passed + cond (is_passed b.kind) 1 0 }
 
 pub record Agrees {R : Type 0} (l : Ledger R) (t : Tally R) : Type 0 where
   pub accepted : l.accepted ≡ t.accepted

@@ -1,6 +1,6 @@
-use Rattle.std.proofs.Common.{arith}
-use Rattle.reader.proofs.Moves.{moves_both}
-use Rattle.reader.proofs.Feeding.{moves_none, moves_end}
+use Rattle.std.proofs.Common.{refl, arith}
+use Rattle.reader.proofs.Moves.{moves_both, moves_still}
+use Rattle.reader.proofs.Feeding.{moves_end}
 use Rattle.reader.proofs.Progressing.{left_all, left_both, left_at}
 use Rattle.reader.proofs.scan.scan.Goals as goal
 
@@ -11,7 +11,7 @@ loop-cursor-init g c =
       some = c.requires.some;
       bounds = c.requires.bounds;
       all = omega arith;
-      moves = moves_none g.F.Family.model g.S.Sink.took c.args.ledger.now c.args.bytes.now _ c.args.sink.now;
+      moves = moves_still g.F.Family.model g.S.Sink.took (λ t. refl);
     }
 
 pub loop-cursor-preserved : goal.loop-cursor-preserved
@@ -27,4 +27,6 @@ loop-cursor-preserved g c =
     }
 
 pub returns-clause-moves : goal.returns-clause-moves
-returns-clause-moves g c = let end = c.loop-cursor in rw (left_at end.invariant.left) (moves_end g.F.Family.model g.S.Sink.took c.args.ledger.now c.args.bytes.now _ c.args.sink.now end.ledger end.cursor.0.now _ _ end.sink (omega arith) (omega arith) end.invariant.moves)
+returns-clause-moves g c =
+    let end = c.loop-cursor.invariant in
+    rw (left_at end.left) (moves_end g.F.Family.model g.S.Sink.took (omega arith) end.moves)
