@@ -1,16 +1,15 @@
 -- What one verdict does to the ledger, the window and the sink is what it does to the reading.
-use Rattle.std.proofs.Common.{◌≡◌, ℕ, zero, suc, ◌+◌, ◌-◌, ◌<◌, ◌≤◌, Bool, true, false, cond, eqb, List, [], ◌∷◌, ◌++◌, length, take, drop, Some, sym, refl, ap, ◌∙◌, append_assoc, add-zero, arith, rules}
+use Rattle.std.proofs.Common.{◌≡◌, ℕ, ◌+◌, ◌-◌, ◌<◌, ◌≤◌, Bool, true, false, cond, eqb, List, [], ◌∷◌, ◌++◌, length, take, drop, Some, sym, refl, ap, ◌∙◌, append_assoc, add-zero, arith, rules}
 use Rattle.std.proofs.lemmas.List.{append-nil, length_push, length-take-le}
 use Rattle.reading.specs.declared.message.Body.{Body}
 use Rattle.reading.specs.declared.message.Defect.{Defect}
 use Rattle.reading.specs.declared.message.Message.{Message}
-use Rattle.reading.specs.declared.message.Verdict.{Verdict}
 use Rattle.reading.specs.declared.message.Verdict.TheVariants.{Wait, Early, Fault, Whole}
 use Rattle.reader.specs.declared.ledger.Ledger.{Ledger}
-use Rattle.reading.specs.Reading.{Model, Tally, told, faulted, completed, body_message, fault_message, passed_over, ruled, resumed, Waits}
+use Rattle.reading.specs.Reading.{Model, Tally, told, faulted, completed, body_message, fault_message, passed_over, resumed, Waits}
 use Rattle.reader.specs.Ledgers.{message_of, after_telling, after_quiet, fault_body, after_fault, after_packet, latest_of, Agrees, Handed}
 use Rattle.reader.specs.Progress.{PassedOver, Moves}
-use Rattle.reading.proofs.Steps.{resumed_step}
+use Rattle.reading.proofs.Steps.{resumed_here}
 use Rattle.reading.proofs.Jumps.{jumped, quieted}
 
 latest_push : (xs : List Message) (x : Message) → latest_of (xs ++ x ∷ []) ≡ Some x
@@ -63,12 +62,6 @@ agrees_completed m l t r n packet b a long made =
 agrees_quiet : {R : Type 0} (l : Ledger R) (t : Tally R) (n : ℕ) → Agrees l t → Agrees (after_quiet n l) (passed_over n t)
 agrees_quiet l t n a = search rules
 
--- the prefix of `next` bytes is judged
-checked : {R : Type 0} (m : Model R) (t : Tally R) (next : ℕ) (rest : List ℕ) (v : Verdict) → 1 ≤ next → next ≤ length rest → m.judge (take next rest) ≡ v →
-    resumed m t (next - 1) rest ≡ ruled m (λ u. resumed m u next rest) (λ u r. resumed m u 0 r) t next rest v
-checked m t zero rest v some h e = absurd (let z : ⊥ = omega arith in z)
-checked m t (suc n) rest v some h e = let one : suc n - 1 ≡ n = omega arith in rw one (resumed_step m t n rest v h e)
-
 pub handed_both : {S : Type 0} (took : S → Message → S → Type 0) (s : S) (xs : List Message) (v : S) (ys : List Message) (u : S) → Handed took s xs v → Handed took v ys u → Handed took s (xs ++ ys) u
 handed_both took s [] v ys u h k = rw h k
 handed_both took s (x ∷ xs) v ys u h k = (h.0, h.1, handed_both took h.0 xs v ys u h.2 k)
@@ -113,7 +106,7 @@ module _ {R S : Type 0} (m : Model R) (took : S → Message → S → Type 0) wh
   -- The prefix of `next` bytes is judged, and the work goes on to the next check.
   module _ {l : Ledger R} {rest : List ℕ} {next : ℕ} {s : S} (some : 1 ≤ next) (within : next ≤ length rest) where
     pub stepped_wait : {r : ℕ} → m.judge (take next rest) ≡ Wait → next < r → Waits m (take next rest) r → Moves m took l rest (next - 1) s l rest (r - 1) s
-    stepped_wait {r = r} e above waits = moves_both (moves_still (λ t. checked m t next rest Wait some within e)) (moves_waits next r above within waits)
+    stepped_wait {r = r} e above waits = moves_both (moves_still (λ t. resumed_here m t next rest Wait some within e)) (moves_waits next r above within waits)
 
     pub stepped_early : {b : Body} {r : ℕ} {l' : Ledger R} {s' : S} → m.judge (take next rest) ≡ Early b → next < r → Waits m (take next rest) r →
         l' ≡ after_telling l b → took s (message_of l b) s' → Moves m took l rest (next - 1) s l' rest (r - 1) s'
@@ -121,7 +114,7 @@ module _ {R S : Type 0} (m : Model R) (took : S → Message → S → Type 0) wh
         let judged : Moves m took l rest (next - 1) s l' rest next s' = λ t a. record {
           now_read = told b t;
           agrees = rw el (agrees_told l t a b);
-          same = checked m t next rest (Early b) some within e;
+          same = resumed_here m t next rest (Early b) some within e;
           news = body_message t b ∷ [];
           told = refl;
           handed = (s', rw (said l t a b) at h, refl);
@@ -135,7 +128,7 @@ module _ {R S : Type 0} (m : Model R) (took : S → Message → S → Type 0) wh
         let judged : Moves m took l rest (next - 1) s l₁ (drop 1 rest) 0 s' = λ t a. record {
           now_read = faulted next d t;
           agrees = rw el (agrees_faulted l t a next d);
-          same = checked m t next rest (Fault d) some within e;
+          same = resumed_here m t next rest (Fault d) some within e;
           news = cond (eqb next 1) [] (fault_message t d ∷ []);
           told = refl;
           handed = handed_fault l t a took d (eqb next 1) s s' h;
@@ -150,7 +143,7 @@ module _ {R S : Type 0} (m : Model R) (took : S → Message → S → Type 0) wh
         let judged : Moves m took l rest (next - 1) s l₁ (drop next rest) 0 s' = λ t a. record {
           now_read = completed m packet b t;
           agrees = rw el (agrees_completed m l t made next packet b a (sym (length-take-le next rest within)) makes);
-          same = checked m t next rest (Whole b) some within e;
+          same = resumed_here m t next rest (Whole b) some within e;
           news = body_message t b ∷ [];
           told = refl;
           handed = (s', rw (said l t a b) at h, refl);

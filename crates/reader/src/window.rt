@@ -3,7 +3,7 @@ ghost use Rattle.std.specs.Prelude.{◌≡◌, ◌≤◌, length};
 
 mod calls;
 
-// Fixed memory, and a refused feed leaves every byte of it as it was: of the bytes that are unused the view of a library vector says nothing.
+// A buffer and a count: memory is fixed, and a refused feed leaves every byte of it as it was, also the unused ones, of which the view of a library vector of fixed capacity says nothing.
 #[derive(Drop)]
 pub struct Window {
     buffer: [u8; 4096],

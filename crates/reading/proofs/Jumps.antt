@@ -31,17 +31,7 @@ module _ {R : Type 0} (m : Model R) where
       waits (take i rest) same (omega arith) (omega arith)) ∙ ap (λ x. resumed m t x rest) e
 
   silent : (d : Defect) (t : Tally R) → faulted 1 d t ≡ passed_over 1 t
-  silent d t =
-      λ i. record {
-        messages = append-nil t.messages i;
-        packets = t.packets;
-        accepted = t.accepted;
-        skipped = t.skipped + 1;
-        whole = t.whole;
-        passed = t.passed;
-        faults = add-zero t.faults i;
-        made = t.made;
-      }
+  silent d t = simp (append-nil, add-zero)
 
   silent_by : (t : Tally R) (b : ℕ) (rest : List ℕ) (v : Verdict) → m.judge (b ∷ []) ≡ v → at_fault v ≡ true → resumed m t 0 (b ∷ rest) ≡ resumed m (passed_over 1 t) 0 rest
   silent_by t b rest Wait e h = absurd (both_ways false refl h)
@@ -50,28 +40,10 @@ module _ {R : Type 0} (m : Model R) where
   silent_by t b rest (Whole x) e h = absurd (both_ways false refl h)
 
   over_both : (t : Tally R) (q : ℕ) → passed_over q (passed_over 1 t) ≡ passed_over (suc q) t
-  over_both t q = let e : t.skipped + 1 + q ≡ t.skipped + suc q = omega arith in λ i. record {
-    messages = t.messages;
-    packets = t.packets;
-    accepted = t.accepted;
-    skipped = e i;
-    whole = t.whole;
-    passed = t.passed;
-    faults = t.faults;
-    made = t.made;
-  }
+  over_both t q = let e : t.skipped + 1 + q ≡ t.skipped + suc q = omega arith in rw e
 
   over_none : (t : Tally R) → passed_over 0 t ≡ t
-  over_none t = λ i. record {
-    messages = t.messages;
-    packets = t.packets;
-    accepted = t.accepted;
-    skipped = add-zero t.skipped i;
-    whole = t.whole;
-    passed = t.passed;
-    faults = t.faults;
-    made = t.made;
-  }
+  over_none t = simp add-zero
 
   -- q bytes at fault alone are q silent steps
   pub quieted : (q : ℕ) (t : Tally R) (rest : List ℕ) → q ≤ length rest → Quiet m rest q → resumed m t 0 rest ≡ resumed m (passed_over q t) 0 (drop q rest)

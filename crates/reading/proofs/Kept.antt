@@ -1,16 +1,17 @@
 -- Where the bytes, messages and packets of a reading lie in its string, and that messages only grow.
-use Rattle.std.proofs.Common.{◌≡◌, ℕ, suc, ◌+◌, ◌-◌, ◌<◌, ◌≤◌, Bool, true, false, cond, eqb, List, [], ◌∷◌, ◌++◌, length, take, drop, sym, refl, ap, ◌∙◌, subst, append_assoc, arith, length-append, length-drop}
+use Rattle.std.proofs.Common.{◌≡◌, ℕ, suc, ◌+◌, ◌-◌, ◌<◌, ◌≤◌, Bool, true, false, cond, eqb, List, [], ◌∷◌, ◌++◌, length, take, drop, sym, refl, ap, ◌∙◌, subst, append_assoc, arith, rules, length-append, length-drop}
 use Rattle.std.proofs.lemmas.List.{append-nil, length_push, length-take-le, drop-drop}
+use Rattle.std.proofs.lemmas.List.Sums.{sum_by_push, fold-append}
 use Rattle.reading.specs.declared.message.Body.{Body}
 use Rattle.reading.specs.declared.message.Defect.{Defect}
 use Rattle.reading.specs.declared.message.Message.{Message}
 use Rattle.reading.specs.declared.message.Verdict.{Verdict}
 use Rattle.reading.specs.declared.message.Verdict.TheVariants.{Wait, Early, Fault, Whole}
-use Rattle.reading.specs.Reading.{Model, Tally, Packet, told, faulted, completed, body_message, fault_message, reading, nothing, is_passed, decided, Open}
+use Rattle.reading.specs.Reading.{Model, Tally, Packet, told, faulted, completed, body_message, fault_message, reading, is_passed, decided, Open}
 use Rattle.reading.specs.Rules.{Accepts}
 use Rattle.reading.specs.Keeps.{Each, Rising, Behind, Found, total_length, passes, passed_count, record_of}
 use Rattle.reading.proofs.Opens.{open_more, open_none}
-use Rattle.reading.proofs.Steps.{After, Finally, read_keeps, resumed_keeps, reading_more}
+use Rattle.reading.proofs.Steps.{After, Finally, reading_keeps, resumed_keeps, reading_more}
 
 each_push : {A : Type 0} (P : A → Type 0) (xs : List A) (x : A) → Each P xs → P x → Each P (xs ++ x ∷ [])
 each_push P [] x h p = (p, tt)
@@ -32,19 +33,12 @@ behind_more : (low : ℕ) (ps : List Packet) (high further : ℕ) → Behind low
 behind_more low [] high further h l = omega arith
 behind_more low (q ∷ ps) high further h l = (h.0, behind_more (q.place + length q.bytes) ps high further h.1 l)
 
-total_push : (ps : List Packet) (p : Packet) → total_length (ps ++ p ∷ []) ≡ total_length ps + length p.bytes
-total_push [] p = omega arith
-total_push (q ∷ ps) p = let e = total_push ps p in omega arith
+-- what holds of messages with and without one more
+pub told_or_not : (P : List Message → Type 0) (xs : List Message) (x : Message) (first : Bool) → P xs → P (xs ++ x ∷ []) → P (xs ++ cond first [] (x ∷ []))
+told_or_not P xs x true without with_one = rw append-nil without
+told_or_not P xs x false without with_one = with_one
 
 module _ {R : Type 0} (m : Model R) where
-  passed_push : (ps : List Packet) (p : Packet) → passed_count m (ps ++ p ∷ []) ≡ passed_count m ps + passes (m.judge p.bytes)
-  passed_push [] p = omega arith
-  passed_push (q ∷ ps) p = let e = passed_push ps p in omega arith
-
-  record_push : (r : R) (ps : List Packet) (p : Packet) → record_of m r (ps ++ p ∷ []) ≡ m.absorb (record_of m r ps) p.bytes
-  record_push r [] p = refl
-  record_push r (q ∷ ps) p = record_push (m.absorb r q.bytes) ps p
-
   -- Where t was read of bs and `rest` is left.
   pub record Sound (bs : List ℕ) (t : Tally R) (n : ℕ) (rest : List ℕ) : Type 0 where
     pub at : rest ≡ drop (t.accepted + t.skipped) bs
@@ -62,47 +56,28 @@ module _ {R : Type 0} (m : Model R) where
   module _ (bs : List ℕ) (t : Tally R) (n : ℕ) (rest : List ℕ) (h : n < length rest) (s : Sound bs t n rest) where
     sound_early : (b : Body) → m.judge (take (suc n) rest) ≡ Early b → Sound bs (told b t) (suc n) rest
     sound_early b e =
-        record {
-          at = s.at;
-          before = open_more m rest n s.before (ap decided e);
-          total = s.total;
-          rising = rising_push 0 t.messages (body_message t b) (t.accepted + t.skipped) s.rising (omega arith);
-          inside = each_push (λ x. x.place < length bs) t.messages (body_message t b) s.inside (omega (arith, s.total));
-          found = s.found;
-          behind = s.behind;
-          accepted = s.accepted;
-          whole = s.whole;
-          passed = s.passed;
-          made = s.made;
-        }
-
-    fault_rising : (d : Defect) (first : Bool) → Rising 0 (t.messages ++ cond first [] (fault_message t d ∷ [])) (t.accepted + (t.skipped + 1))
-    fault_rising d true = rw append-nil (rising_more 0 t.messages (t.accepted + t.skipped) (t.accepted + (t.skipped + 1)) s.rising (omega arith))
-    fault_rising d false = rising_push 0 t.messages (fault_message t d) (t.accepted + (t.skipped + 1)) s.rising (omega arith)
-
-    fault_inside : (d : Defect) (first : Bool) → Each (λ x. x.place < length bs) (t.messages ++ cond first [] (fault_message t d ∷ []))
-    fault_inside d true = rw append-nil s.inside
-    fault_inside d false = each_push (λ x. x.place < length bs) t.messages (fault_message t d) s.inside (omega (arith, s.total))
+        let before = open_more m rest n s.before (ap decided e) in
+        let rising = rising_push 0 t.messages (body_message t b) (t.accepted + t.skipped) s.rising (omega arith) in
+        let inside = each_push (λ x. x.place < length bs) t.messages (body_message t b) s.inside (omega (arith, s.total)) in
+        search rules
 
     further : (k : ℕ) → drop k rest ≡ drop (t.accepted + t.skipped + k) bs
     further k = ap (drop k) s.at ∙ drop-drop k (t.accepted + t.skipped) bs
 
     sound_fault : (d : Defect) → Sound bs (faulted (suc n) d t) 0 (drop 1 rest)
     sound_fault d =
-        let same : t.accepted + t.skipped + 1 ≡ t.accepted + (t.skipped + 1) = omega arith in
-        record {
-          at = further 1 ∙ ap (λ k. drop k bs) same;
-          before = open_none m (drop 1 rest);
-          total = simp length-drop (omega (arith, s.total));
-          rising = fault_rising d (eqb (suc n) 1);
-          inside = fault_inside d (eqb (suc n) 1);
-          found = s.found;
-          behind = behind_more 0 t.packets (t.accepted + t.skipped) (t.accepted + (t.skipped + 1)) s.behind (omega arith);
-          accepted = s.accepted;
-          whole = s.whole;
-          passed = s.passed;
-          made = s.made;
-        }
+        let place = t.accepted + t.skipped in
+        let next = t.accepted + (t.skipped + 1) in
+        let x = fault_message t d in
+        let first = eqb (suc n) 1 in
+        let same : place + 1 ≡ next = omega arith in
+        let at = further 1 ∙ ap (λ k. drop k bs) same in
+        let before = open_none m (drop 1 rest) in
+        let total : next + length (drop 1 rest) ≡ length bs = simp length-drop (omega (arith, s.total)) in
+        let rising = told_or_not (λ xs. Rising 0 xs next) t.messages x first (rising_more 0 t.messages place next s.rising (omega arith)) (rising_push 0 t.messages x next s.rising (omega arith)) in
+        let inside = told_or_not (Each (λ y. y.place < length bs)) t.messages x first s.inside (each_push (λ y. y.place < length bs) t.messages x s.inside (omega (arith, s.total))) in
+        let behind = behind_more 0 t.packets place next s.behind (omega arith) in
+        search rules
 
     accepted_here : (b : Body) → m.judge (take (suc n) rest) ≡ Whole b → Accepts m (drop (t.accepted + t.skipped) bs) (length (take (suc n) rest)) b
     accepted_here b e =
@@ -127,23 +102,21 @@ module _ {R : Type 0} (m : Model R) where
           inside = each_push (λ x. x.place < length bs) t.messages (body_message t b) s.inside (omega (arith, s.total));
           found = each_push (Found m bs) t.packets packet s.found (record { bytes = stands; body = b; accepted = accepted_here b e });
           behind = behind_push 0 t.packets packet (t.accepted + length bytes + t.skipped) s.behind (omega arith);
-          accepted = ap (λ k. k + length bytes) s.accepted ∙ sym (total_push t.packets packet);
+          accepted = ap (λ k. k + length bytes) s.accepted ∙ sym (sum_by_push (λ p. length p.bytes) t.packets packet);
           whole = ap (λ k. k + 1) s.whole ∙ sym (length_push t.packets packet);
-          passed = ap (λ k. k + cond (is_passed b.kind) 1 0) s.passed ∙ ap (λ v. passed_count m t.packets + passes v) (sym e) ∙ sym (passed_push t.packets packet);
-          made = ap (λ r. m.absorb r bytes) s.made ∙ sym (record_push m.first t.packets packet);
+          passed = ap (λ k. k + cond (is_passed b.kind) 1 0) s.passed ∙ ap (λ v. passed_count m t.packets + passes v) (sym e) ∙ sym (sum_by_push (λ p. passes (m.judge p.bytes)) t.packets packet);
+          made = ap (λ r. m.absorb r bytes) s.made ∙ sym (fold-append (λ r p. m.absorb r p.bytes) m.first t.packets (packet ∷ []));
         }
 
   sound_keeps : (bs : List ℕ) (t : Tally R) (n : ℕ) (rest : List ℕ) (v : Verdict) → n < length rest → m.judge (take (suc n) rest) ≡ v → Sound bs t n rest → After m (Sound bs) t (suc n) rest v
-  sound_keeps bs t n rest Wait h e s =
-      record { at = s.at; before = open_more m rest n s.before (ap decided e); total = s.total; rising = s.rising; inside = s.inside; found = s.found; behind = s.behind; accepted = s.accepted; whole = s.whole; passed = s.passed; made = s.made }
+  sound_keeps bs t n rest Wait h e s = let before = open_more m rest n s.before (ap decided e) in search rules
   sound_keeps bs t n rest (Early b) h e s = sound_early bs t n rest h s b e
   sound_keeps bs t n rest (Fault d) h e s = sound_fault bs t n rest h s d
   sound_keeps bs t n rest (Whole b) h e s = sound_whole bs t n rest h s b e
 
   pub sound : (bs : List ℕ) → Finally (Sound bs) (reading m bs)
-  unfolding reading
   sound bs =
-      read_keeps m (Sound bs) (sound_keeps bs) (length bs) (nothing m) bs (omega arith)
+      reading_keeps m (Sound bs) (sound_keeps bs) bs
       (record { at = refl; before = open_none m bs; total = omega arith; rising = omega arith; inside = tt; found = tt; behind = omega arith; accepted = refl; whole = refl; passed = refl; made = refl })
 
   -- the messages only grow

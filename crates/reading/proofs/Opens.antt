@@ -4,8 +4,8 @@ use Rattle.std.proofs.lemmas.List.{length-take-le, take-take}
 use Rattle.std.proofs.lemmas.Bool.{cases_lt, both_ways}
 use Rattle.reading.specs.declared.message.Verdict.{Verdict}
 use Rattle.reading.specs.declared.message.Verdict.TheVariants.{Wait, Early, Fault, Whole}
-use Rattle.reading.specs.Reading.{Model, Laws, Tally, reading, nothing, decided, Open}
-use Rattle.reading.proofs.Steps.{After, read_keeps}
+use Rattle.reading.specs.Reading.{Model, Laws, Tally, reading, decided, Open}
+use Rattle.reading.proofs.Steps.{After, reading_keeps}
 
 module _ {R : Type 0} (m : Model R) where
   -- one more prefix that is neither at fault nor whole
@@ -26,8 +26,7 @@ module _ {R : Type 0} (m : Model R) where
   open_keeps t n rest (Whole b) h e o = open_none (drop (suc n) rest)
 
   pub held_open : (bs : List ℕ) → Open m.judge (reading m bs).held (length (reading m bs).held)
-  unfolding reading
-  held_open bs = read_keeps m Openly open_keeps (length bs) (nothing m) bs (omega arith) (open_none bs)
+  held_open bs = reading_keeps m Openly open_keeps bs (open_none bs)
 
   open_short : Laws m → (rest : List ℕ) → Open m.judge rest (length rest) → length rest < m.longest
   open_short laws rest o = ⊎_elim (λ h. h) (λ (h : m.longest ≤ length rest). absurd (never h)) (cases_lt (length rest) m.longest)

@@ -8,7 +8,7 @@ use Rattle.reading.specs.declared.message.Verdict.TheVariants.{Wait, Early, Faul
 use Rattle.reading.specs.Reading.{Model, Tally, faulted, completed, reading, resumed, ruled, decided, Open}
 use Rattle.reading.specs.Rules.{Skips, Accepts, from, hear, heard, Rules}
 use Rattle.reading.proofs.Opens.{open_more, open_none}
-use Rattle.reading.proofs.Steps.{resumed_start, resumed_step, resumed_ends}
+use Rattle.reading.proofs.Steps.{resumed_start, resumed_step, resumed_here, resumed_ends}
 
 module _ {R : Type 0} (m : Model R) where
   heard_step : (t : Tally R) (n : ℕ) (rest : List ℕ) (v : Verdict) → decided v ≡ false →
@@ -25,19 +25,10 @@ module _ {R : Type 0} (m : Model R) where
       let u = heard m t rest n in
       heard_on t rest n (omega arith) (λ i l b. o i l (omega arith)) ∙ resumed_step m u n rest v h refl ∙ heard_step u n rest v (o (suc n) (omega arith) (omega arith))
 
-  skips_at : (t : Tally R) (rest : List ℕ) (n : ℕ) (d : Defect) → Skips m rest n d → from m t rest ≡ from m (faulted n d (heard m t rest (n - 1))) (drop 1 rest)
-  skips_at t rest zero d s = absurd (let z : ⊥ = omega (arith, s.some) in z)
-  skips_at t rest (suc n) d s =
-      let same : suc n - 1 ≡ n = omega arith in
-      let o : Open m.judge rest n = rw same at s.before in
-      rw same (heard_on t rest n (omega (arith, s.within)) o ∙ resumed_step m (heard m t rest n) n rest (Fault d) s.within s.here ∙ resumed_start m (faulted (suc n) d (heard m t rest n)) (drop 1 rest))
-
-  accepts_at : (t : Tally R) (rest : List ℕ) (n : ℕ) (b : Body) → Accepts m rest n b → from m t rest ≡ from m (completed m (take n rest) b (heard m t rest (n - 1))) (drop n rest)
-  accepts_at t rest zero b s = absurd (let z : ⊥ = omega (arith, s.some) in z)
-  accepts_at t rest (suc n) b s =
-      let same : suc n - 1 ≡ n = omega arith in
-      let o : Open m.judge rest n = rw same at s.before in
-      rw same (heard_on t rest n (omega (arith, s.within)) o ∙ resumed_step m (heard m t rest n) n rest (Whole b) s.within s.here ∙ resumed_start m (completed m (take (suc n) rest) b (heard m t rest n)) (drop (suc n) rest))
+  -- the prefix of n bytes is judged, and no shorter one is at fault or whole
+  judged_at : (t : Tally R) (rest : List ℕ) (n : ℕ) (v : Verdict) → 1 ≤ n → n ≤ length rest → Open m.judge rest (n - 1) → m.judge (take n rest) ≡ v →
+      from m t rest ≡ ruled m (λ u. resumed m u n rest) (λ u r. resumed m u 0 r) (heard m t rest (n - 1)) n rest v
+  judged_at t rest n v some within before here = heard_on t rest (n - 1) (omega arith) before ∙ resumed_here m (heard m t rest (n - 1)) n rest v some within here
 
   abbrev Ends : List ℕ → Type 0
   Ends rest = ((n : ℕ) × (d : Defect) × Skips m rest n d) ⊎ ((n : ℕ) × (b : Body) × Accepts m rest n b)
@@ -63,6 +54,6 @@ module _ {R : Type 0} (m : Model R) where
         begins = λ bs. refl;
         happens = λ rest. happens_by rest (length rest) (omega arith);
         holds = λ t rest o. heard_on t rest (length rest) (omega arith) o ∙ resumed_ends m (heard m t rest (length rest)) (length rest) rest (omega arith);
-        skips = skips_at;
-        accepts = accepts_at;
+        skips = λ t rest n d s. judged_at t rest n (Fault d) s.some s.within s.before s.here ∙ resumed_start m (faulted n d (heard m t rest (n - 1))) (drop 1 rest);
+        accepts = λ t rest n b s. judged_at t rest n (Whole b) s.some s.within s.before s.here ∙ resumed_start m (completed m (take n rest) b (heard m t rest (n - 1))) (drop n rest);
       }

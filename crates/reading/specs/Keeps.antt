@@ -1,5 +1,6 @@
 -- What holds of the reading of every byte string.
 use Rattle.std.specs.Prelude.{◌≡◌, ℕ, ◌+◌, ◌<◌, ◌≤◌, Bool, true, false, cond, List, [], ◌∷◌, ◌++◌, length, take, drop, ◌==◌}
+use Rattle.std.specs.List.{fold, sum_by}
 use Rattle.reading.specs.declared.message.Kind.{Kind}
 use Rattle.reading.specs.declared.message.Kind.TheVariants.{Inertial, Solution, Status, Passed, Fault as FaultKind}
 use Rattle.reading.specs.declared.message.Body.{Body}
@@ -29,8 +30,7 @@ is_kind k j = cond (kind_bit j == kind_bit k) 1 0
 
 -- how many messages are of the kind k
 abbrev pub count_of : Kind → List Message → ℕ
-count_of k [] = 0
-count_of k (x ∷ xs) = is_kind k x.kind + count_of k xs
+count_of k xs = sum_by (λ x. is_kind k x.kind) xs
 
 -- The packets lie one behind another between `low` and `high`.
 abbrev pub Behind : ℕ → List Packet → ℕ → Type 0
@@ -44,8 +44,7 @@ pub record Found {R : Type 0} (m : Model R) (bs : List ℕ) (p : Packet) : Type 
   pub accepted : Accepts m (drop p.place bs) (length p.bytes) body
 
 abbrev pub total_length : List Packet → ℕ
-total_length [] = 0
-total_length (p ∷ ps) = length p.bytes + total_length ps
+total_length ps = sum_by (λ p. length p.bytes) ps
 
 -- 1 for a verdict that a packet is whole and passed over, else 0
 abbrev pub passes : Verdict → ℕ
@@ -55,13 +54,11 @@ passes (Fault d) = 0
 passes (Whole b) = cond (is_passed b.kind) 1 0
 
 abbrev pub passed_count : {R : Type 0} → Model R → List Packet → ℕ
-passed_count m [] = 0
-passed_count m (p ∷ ps) = passes (m.judge p.bytes) + passed_count m ps
+passed_count m ps = sum_by (λ p. passes (m.judge p.bytes)) ps
 
 -- what packets, in their order, make of a record
 abbrev pub record_of : {R : Type 0} → Model R → R → List Packet → R
-record_of m r [] = r
-record_of m r (p ∷ ps) = record_of m (m.absorb r p.bytes) ps
+record_of m r ps = fold (λ x p. m.absorb x p.bytes) r ps
 
 -- Early verdicts tell of inertial or solution quantities, and whole ones of a status or a packet passed over.
 abbrev pub is_early : Kind → Bool

@@ -100,45 +100,20 @@ fault_message t d = body_message t (fault_body d)
 
 -- a message early in a packet
 abbrev pub told : {R : Type 0} → Body → Tally R → Tally R
-told b t =
-    record {
-      messages = t.messages ++ body_message t b ∷ [];
-      packets = t.packets;
-      accepted = t.accepted;
-      skipped = t.skipped;
-      whole = t.whole;
-      passed = t.passed;
-      faults = t.faults;
-      made = t.made;
-    }
+told b t = record t { messages = t.messages ++ body_message t b ∷ [] }
 
 -- a fault at n bytes skips one; at 1 byte it makes no message
 abbrev pub faulted : {R : Type 0} → ℕ → Defect → Tally R → Tally R
 faulted n d t =
-    record {
+    record t {
       messages = t.messages ++ cond (n == 1) [] (fault_message t d ∷ []);
-      packets = t.packets;
-      accepted = t.accepted;
       skipped = t.skipped + 1;
-      whole = t.whole;
-      passed = t.passed;
       faults = t.faults + cond (n == 1) 0 1;
-      made = t.made;
     }
 
 -- n faults at 1 byte
 abbrev pub passed_over : {R : Type 0} → ℕ → Tally R → Tally R
-passed_over n t =
-    record {
-      messages = t.messages;
-      packets = t.packets;
-      accepted = t.accepted;
-      skipped = t.skipped + n;
-      whole = t.whole;
-      passed = t.passed;
-      faults = t.faults;
-      made = t.made;
-    }
+passed_over n t = record t { skipped = t.skipped + n }
 
 abbrev pub is_passed : Kind → Bool
 is_passed Inertial = false
@@ -150,14 +125,11 @@ is_passed FaultKind = false
 -- a whole packet is accepted
 abbrev pub completed : {R : Type 0} → Model R → List ℕ → Body → Tally R → Tally R
 completed m packet b t =
-    record {
-      messages = t.messages ++ body_message t b ∷ [];
+    record (told b t) {
       packets = t.packets ++ (record { place = t.accepted + t.skipped; bytes = packet }) ∷ [];
       accepted = t.accepted + length packet;
-      skipped = t.skipped;
       whole = t.whole + 1;
       passed = t.passed + cond (is_passed b.kind) 1 0;
-      faults = t.faults;
       made = m.absorb t.made packet;
     }
 
