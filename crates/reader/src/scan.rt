@@ -44,9 +44,8 @@ fn step<'a, F: Family, S: Sink>(
     ensures falls { 4098 * length result.rest.now + (4097 - result.next) < 4098 * length cursor.entry.rest.now + (4097 - cursor.entry.next) }
     ensures moves { Moves F.model S.took ledger.old cursor.entry.rest.now (cursor.entry.next - 1) sink.old ledger.new result.rest.now (result.next - 1) sink.new }
 {
-    let rest = cursor.rest;
-    let n = cursor.next;
-    let prefix = &rest[..n];
+    let Cursor { rest, next } = cursor;
+    let prefix = &rest[..next];
     match F::judge(prefix) {
         Verdict::Wait => Cursor {
             rest,
@@ -60,13 +59,13 @@ fn step<'a, F: Family, S: Sink>(
             }
         }
         Verdict::Fault(defect) => {
-            ledger.skip(n, defect, sink);
+            ledger.skip(next, defect, sink);
             pass_quiet::<F>(&rest[1..], ledger)
         }
         Verdict::Whole(body) => {
             F::absorb(&mut ledger.record, prefix);
-            ledger.accept(n, body, sink);
-            pass_quiet::<F>(&rest[n..], ledger)
+            ledger.accept(next, body, sink);
+            pass_quiet::<F>(&rest[next..], ledger)
         }
     }
 }
