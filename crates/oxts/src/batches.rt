@@ -1,9 +1,9 @@
 // The quantities of a packet, batch by batch.
-ghost use Rattle.std.specs.Prelude.{◌≡◌, ◌<◌};
+ghost use Rattle.std.specs.Prelude.{◌≡◌};
 ghost use Rattle.oxts.specs.Batches.{vector_at, inertial_in, solution_in, batch_c_in, status_batch_in};
 
 use crate::format::Format;
-use crate::words::{byte_at, i24_at, i64_at, u16_at, u32_at};
+use crate::words::{byte_at, bytes_at, read_i24};
 use std::fmt;
 
 // Three signed 24-bit words.
@@ -48,14 +48,14 @@ pub struct StatusBatch {
     pub batch_c: BatchC,
 }
 
-fn vector_at(packet: &[u8], at: usize) -> Vector
-    requires few { at < 128 }
-    ensures value { result ≡ vector_at packet.now at }
+fn read_vector(words: [u8; 9]) -> Vector
+    ensures value { result ≡ vector_at words 0 }
 {
+    let [a, b, c, d, e, f, g, h, i] = words;
     Vector {
-        x: i24_at(packet, at),
-        y: i24_at(packet, at + 3),
-        z: i24_at(packet, at + 6),
+        x: read_i24([a, b, c]),
+        y: read_i24([d, e, f]),
+        z: read_i24([g, h, i]),
     }
 }
 
@@ -63,9 +63,9 @@ pub fn inertial_in(packet: &[u8]) -> Inertial
     ensures value { result ≡ inertial_in packet.now }
 {
     Inertial {
-        time: u16_at(packet, 1),
-        accelerations: vector_at(packet, 3),
-        rates: vector_at(packet, 12),
+        time: u16::from_le_bytes(bytes_at(packet, 1)),
+        accelerations: read_vector(bytes_at(packet, 3)),
+        rates: read_vector(bytes_at(packet, 12)),
     }
 }
 
@@ -73,11 +73,11 @@ pub fn solution_in(packet: &[u8]) -> Solution
     ensures value { result ≡ solution_in packet.now }
 {
     Solution {
-        latitude: i64_at(packet, 23),
-        longitude: i64_at(packet, 31),
-        altitude: u32_at(packet, 39),
-        velocity: vector_at(packet, 43),
-        attitude: vector_at(packet, 52),
+        latitude: i64::from_le_bytes(bytes_at(packet, 23)),
+        longitude: i64::from_le_bytes(bytes_at(packet, 31)),
+        altitude: u32::from_le_bytes(bytes_at(packet, 39)),
+        velocity: read_vector(bytes_at(packet, 43)),
+        attitude: read_vector(bytes_at(packet, 52)),
     }
 }
 
@@ -87,8 +87,8 @@ fn batch_c_in(format: Format, packet: &[u8]) -> BatchC
     match format {
         Format::Ncom => BatchC { front: 0, back: 0 },
         Format::Mcom => BatchC {
-            front: i64_at(packet, 62),
-            back: u32_at(packet, 70),
+            front: i64::from_le_bytes(bytes_at(packet, 62)),
+            back: u32::from_le_bytes(bytes_at(packet, 70)),
         },
     }
 }
@@ -99,7 +99,7 @@ pub fn status_batch_in(format: Format, packet: &[u8]) -> StatusBatch
     let place = format.channel_place();
     StatusBatch {
         channel: byte_at(packet, place),
-        batch_s: i64_at(packet, place + 1),
+        batch_s: i64::from_le_bytes(bytes_at(packet, place + 1)),
         batch_c: batch_c_in(format, packet),
     }
 }
