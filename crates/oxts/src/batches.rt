@@ -106,20 +106,20 @@ pub fn status_batch_in(format: Format, packet: &[u8]) -> StatusBatch
 
 impl fmt::Display for Vector {
     fn fmt<W: fmt::Write>(&self, f: &mut fmt::Formatter<W>) -> fmt::Result {
-        let x = self.x;
-        let y = self.y;
-        let z = self.z;
+        let Vector { x, y, z } = *self;
         write!(f, "{x} {y} {z}")
     }
 }
 
 impl fmt::Display for Solution {
     fn fmt<W: fmt::Write>(&self, f: &mut fmt::Formatter<W>) -> fmt::Result {
-        let latitude = self.latitude;
-        let longitude = self.longitude;
-        let altitude = self.altitude;
-        let velocity = self.velocity;
-        let attitude = self.attitude;
+        let Solution {
+            latitude,
+            longitude,
+            altitude,
+            velocity,
+            attitude,
+        } = *self;
         write!(
             f,
             "position {latitude} {longitude} {altitude} velocity {velocity} attitude {attitude}"
