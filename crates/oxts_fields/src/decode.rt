@@ -1,39 +1,20 @@
 // One decoder for every field: its bits, its value, and whether it is valid.
-ghost use Rattle.std.specs.Prelude.{◌≡◌, ◌+◌, ◌<◌};
-ghost use Rattle.oxts.specs.Words.{unsigned16_at, unsigned32_at};
+ghost use Rattle.std.specs.Prelude.{◌≡◌};
 ghost use Rattle.oxts_fields.specs.Fields.{pattern_of, value_of, valid_by, field_value as value_in};
 
 use crate::layout::{Form, Layout, Rule};
-use oxts::words::byte_at;
-
-fn two_at(bytes: &[u8; 8], place: u32) -> u16
-    ensures value { result ≡ unsigned16_at bytes.now place }
-{
-    let i = place as usize;
-    u16::from_le_bytes([byte_at(bytes, i), byte_at(bytes, i + 1)])
-}
-
-fn four_at(bytes: &[u8; 8], place: u32) -> u32
-    ensures value { result ≡ unsigned32_at bytes.now place }
-{
-    let i = place as usize;
-    u32::from_le_bytes([
-        byte_at(bytes, i),
-        byte_at(bytes, i + 1),
-        byte_at(bytes, i + 2),
-        byte_at(bytes, i + 3),
-    ])
-}
+use oxts::words::{byte_at, bytes_at};
 
 // The bits of a field, before any sign.
 fn pattern(bytes: &[u8; 8], layout: Layout) -> u32
     ensures value { result ≡ pattern_of layout.form bytes.now layout.place }
 {
-    let byte = byte_at(bytes, layout.place as usize);
+    let place = layout.place as usize;
+    let byte = byte_at(bytes, place);
     match layout.form {
         Form::Unsigned1 | Form::UpperSeven => byte as u32,
-        Form::Unsigned2 | Form::Signed2 => two_at(bytes, layout.place) as u32,
-        Form::Unsigned4 | Form::Signed4 => four_at(bytes, layout.place),
+        Form::Unsigned2 | Form::Signed2 => u16::from_le_bytes(bytes_at(bytes, place)) as u32,
+        Form::Unsigned4 | Form::Signed4 => u32::from_le_bytes(bytes_at(bytes, place)),
         Form::LowNibble => (byte & 0x0F) as u32,
         Form::HighNibble => (byte >> 4) as u32,
     }

@@ -4,28 +4,23 @@ ghost use Rattle.oxts_fields.specs.Refusals.{refusal_number};
 
 use std::fmt;
 
-#[derive(Clone, Copy, Debug)]
+#[derive(Clone, Copy, PartialEq, Eq, Debug)]
 pub enum Refusal {
     // The format's table has no such channel.
-    NoChannel,
+    NoChannel = 9,
     // The channel has no such field.
-    NoField,
+    NoField = 10,
     // The channel was not heard.
-    NotHeard,
+    NotHeard = 11,
     // The field, or the time, is not valid.
-    NotValid,
+    NotValid = 12,
 }
 
 impl Refusal {
     pub fn number(self) -> u8
         ensures value { result ≡ refusal_number self }
     {
-        match self {
-            Refusal::NoChannel => 9,
-            Refusal::NoField => 10,
-            Refusal::NotHeard => 11,
-            Refusal::NotValid => 12,
-        }
+        self as u8
     }
 }
 
