@@ -1,5 +1,6 @@
 -- The fields of the status channels, as runs of equal fields that lie one behind another.
 use Rattle.std.specs.Prelude.{ℕ, ◌+◌, ◌-◌, ◌*◌, Bool, true, false, cond, ◌&&◌, List, [], ◌∷◌, Some, None, Ok, Err, Option, Result, ◌==◌, nat_le, nat_lt}
+use Rattle.std.specs.List.{list_any}
 use Rattle.oxts.specs.declared.format.Format.{Format}
 use Rattle.oxts.specs.declared.format.Format.TheVariants.{Ncom, Mcom}
 use Rattle.oxts_fields.specs.declared.layout.Form.{Form}
@@ -96,8 +97,7 @@ layout_in f c n r =
     None
 
 abbrev pub tabled : Format → ℕ → List Run → Bool
-tabled f c [] = false
-tabled f c (r ∷ rs) = cond (concerns f c r) true (tabled f c rs)
+tabled f c = list_any (concerns f c)
 
 abbrev pub or_else : Option Layout → Option Layout → Option Layout
 or_else (Some l) o = Some l

@@ -32,6 +32,7 @@ fn value(form: Form, pattern: u32) -> i64
     }
 }
 
+// One arm for each rule of the table; a trait with an impl for each form and rule would be no plainer, here and above.
 fn valid(bytes: &[u8; 8], rule: Rule, pattern: u32, value: i64) -> bool
     ensures value { result ≡ valid_by rule bytes.now pattern value }
 {
@@ -54,9 +55,5 @@ pub(crate) fn field_value(bytes: &[u8; 8], layout: Layout) -> Option<i64>
 {
     let bits = pattern(bytes, layout);
     let number = value(layout.form, bits);
-    if valid(bytes, layout.rule, bits, number) {
-        Some(number)
-    } else {
-        None
-    }
+    valid(bytes, layout.rule, bits, number).then_some(number)
 }

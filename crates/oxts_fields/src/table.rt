@@ -16,6 +16,7 @@ pub enum Formats {
 }
 
 // Fields of one form and rule that lie one behind another: formats, channel, number of the first field, place of the first, form, rule, how many.
+// A tuple, since names in each of the 41 rows would hide the table.
 #[derive(Clone, Copy)]
 pub struct Run(Formats, u8, u8, u8, Form, Rule, u8);
 
@@ -234,28 +235,19 @@ impl Run {
 fn is_tabled(runs: &[Run], format: Format, channel: u32) -> bool
     ensures value { result ≡ tabled format channel runs.now }
 {
-    for run in runs {
-        if run.concerns(format, channel) {
-            return true;
-        }
-    }
-    false
+    runs.iter().any(|run| run.concerns(format, channel))
 }
 
 // The layout of a field of a channel, by the first run of the channel that has it.
 fn find(runs: &[Run], format: Format, channel: u32, field: u32) -> Option<Layout>
     ensures value { result ≡ layout_of format channel field runs.now }
 {
-    for run in runs {
-        match run.layout(format, channel, field) {
-            Some(layout) => return Some(layout),
-            None => {}
-        }
-    }
-    None
+    runs.iter()
+        .find_map(|run| run.layout(format, channel, field))
 }
 
-// The layout of a field, or why there is none.
+// The layout of a field, or why there is none. Format, channel and number stay three parameters here and above: a struct
+// of them would be made here from the same three, and `Run` would only take it apart.
 pub fn layout_of(format: Format, channel: u32, field: u32) -> Result<Layout, Refusal>
     ensures value { result ≡ layout_asked format channel field }
 {

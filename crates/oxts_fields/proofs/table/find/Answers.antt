@@ -1,23 +1,28 @@
-use Rattle.std.proofs.Common.{◌+◌, drop, sym, ap, ◌∙◌}
-use Rattle.std.proofs.lemmas.List.{at_drop_more, at_drop_all}
-use Rattle.oxts_fields.specs.Table.{layout_of, or_else, no_run}
+use Rattle.std.proofs.Common.{◌≡◌, ℕ, zero, suc, ◌<◌, List, [], ◌∷◌, Option, Some, None, length, get_or, refl, sym, ◌∙◌, ap, rules, arith}
+use Rattle.std.specs.Option.{MatchOption}
+use Rattle.std.proofs.iter.runs.Made.{chains}
+use Rattle.oxts.specs.declared.format.Format.{Format}
+use Rattle.oxts_fields.specs.declared.layout.Layout.{Layout}
+use Rattle.oxts_fields.specs.declared.table.Run.{Run}
+use Rattle.oxts_fields.specs.Table.{layout_in, layout_of, or_else, no_run}
 use Rattle.oxts_fields.proofs.table.find.Goals as goal
 
-pub returns-in-Some : goal.returns-in-Some
-returns-in-Some c =
-    let look = layout_of c.args.format c.args.channel c.args.field in
-    let runs = c.args.runs.now in
-    let i = c.loop-run.run-index in
-    record { value = sym (sym c.loop-run.invariant ∙ at_drop_more look runs i no_run c.loop-run-test.true ∙ ap (λ o. or_else o (look (drop (i + 1) runs))) (sym c.in-Some.ensures.value)) }
+module _ (f : Format) (c n : ℕ) where
+  abbrev Gives : List Run → ℕ → Option Layout → Type 0
+  Gives runs k r = layout_in f c n (get_or runs k no_run) ≡ r
 
-pub loop-run-preserved : goal.loop-run-preserved
-loop-run-preserved c =
-    let look = layout_of c.args.format c.args.channel c.args.field in
-    let runs = c.args.runs.now in
-    let i = c.loop-run.run-index in
-    sym (sym c.loop-run.invariant ∙ at_drop_more look runs i no_run c.loop-run-test.true ∙ ap (λ o. or_else o (look (drop (i + 1) runs))) (sym c.in-None.ensures.value))
+  -- r is what the first run gives that has the field
+  abbrev First : List Run → Option Layout → Type 0
+  First runs r =
+      MatchOption r ((k : ℕ) → k < length runs → Gives runs k None) (λ l. (i : ℕ) × (i < length runs) × Gives runs i (Some l) × ((k : ℕ) → k < i → Gives runs k None))
+
+  first : (runs : List Run) (r : Option Layout) → First runs r → r ≡ layout_of f c n runs
+  first [] None h = refl
+  first [] (Some l) h = absurd (omega (arith, h.1))
+  first (r ∷ rs) None h = first rs None (λ k lt. h (suc k) (omega arith)) ∙ ap (λ o. or_else o (layout_of f c n rs)) (sym (h 0 (omega arith)))
+  first (r ∷ rs) (Some l) (zero, inside, here, before) = ap (λ o. or_else o (layout_of f c n rs)) (sym here)
+  first (r ∷ rs) (Some l) (suc i, inside, here, before) =
+      first rs (Some l) (i, omega arith, here, λ k lt. before (suc k) (omega arith)) ∙ ap (λ o. or_else o (layout_of f c n rs)) (sym (before 0 (omega arith)))
 
 pub returns : goal.returns
-returns c =
-    let look = layout_of c.args.format c.args.channel c.args.field in
-    record { value = sym (sym c.loop-run.invariant ∙ at_drop_all look c.args.runs.now c.loop-run.run-index c.loop-run-test.false) }
+returns c = record { value = first c.args.format c.args.channel c.args.field c.args.runs.now c.find_map.result (search (rules, chains)) }
