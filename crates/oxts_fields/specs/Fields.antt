@@ -1,5 +1,6 @@
 -- How a field is read from the eight bytes of its channel, and when it is valid.
 use Rattle.std.specs.Prelude.{ℕ, ◌-◌, ◌*◌, ◌/◌, ◌%◌, Bool, true, cond, not, List, ℤ, pos, negsuc, Some, None, Ok, Err, Option, Result, ◌==◌, int_lt, nat_le, nat_lt, slice_index}
+use Rattle.std.specs.Option.{ok_or}
 use Rattle.oxts.specs.declared.format.Format.{Format}
 use Rattle.oxts.specs.Words.{unsigned16_at, unsigned32_at}
 use Rattle.oxts_fields.specs.declared.layout.Form.{Form}
@@ -9,7 +10,7 @@ use Rattle.oxts_fields.specs.declared.layout.Rule.{Rule}
 use Rattle.oxts_fields.specs.declared.layout.Rule.TheVariants.{Always, AtLeast, Above, UpTo, Below, Not, ByteSixBelow, ByteSixIs, BitZeroSet}
 use Rattle.oxts_fields.specs.declared.refusal.Refusal.{Refusal}
 use Rattle.oxts_fields.specs.declared.refusal.Refusal.TheVariants.{NotHeard, NotValid}
-use Rattle.oxts_fields.specs.Table.{or_refuse, layout_asked}
+use Rattle.oxts_fields.specs.Table.{layout_asked}
 
 -- the bits of a field, as an unsigned number
 abbrev pub pattern_of : Form → List ℕ → ℕ → ℕ
@@ -48,17 +49,16 @@ valid_by (ByteSixBelow m) bs n z = nat_lt (slice_index bs 6) m
 valid_by (ByteSixIs m) bs n z = slice_index bs 6 == m
 valid_by BitZeroSet bs n z = n % 2 == 1
 
-abbrev pub where_valid : Rule → List ℕ → ℕ → ℤ → Option ℤ
-where_valid r bs n z = cond (valid_by r bs n z) (Some z) None
-
 -- the value of a field, where it is valid
 abbrev pub field_value : List ℕ → Layout → Option ℤ
 field_value bs l =
-    where_valid l.rule bs (pattern_of l.form bs l.place) (value_of l.form (pattern_of l.form bs l.place))
+    let n = pattern_of l.form bs l.place in
+    let z = value_of l.form n in
+    cond (valid_by l.rule bs n z) (Some z) None
 
 abbrev pub read_heard : Option (List ℕ) → Layout → Result ℤ Refusal
 read_heard None l = Err NotHeard
-read_heard (Some bs) l = or_refuse (field_value bs l) NotValid
+read_heard (Some bs) l = ok_or (field_value bs l) NotValid
 
 abbrev pub read_by : Option (List ℕ) → Result Layout Refusal → Result ℤ Refusal
 read_by heard (Ok l) = read_heard heard l

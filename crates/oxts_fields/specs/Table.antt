@@ -1,6 +1,7 @@
 -- The fields of the status channels, as runs of equal fields that lie one behind another.
-use Rattle.std.specs.Prelude.{ℕ, ◌+◌, ◌-◌, ◌*◌, Bool, true, false, cond, ◌&&◌, List, [], ◌∷◌, Some, None, Ok, Err, Option, Result, ◌==◌, nat_le, nat_lt}
+use Rattle.std.specs.Prelude.{ℕ, ◌+◌, ◌-◌, ◌*◌, Bool, true, false, cond, ◌&&◌, List, [], ◌∷◌, Some, None, Err, Option, Result, ◌==◌, nat_le, nat_lt}
 use Rattle.std.specs.List.{list_any}
+use Rattle.std.specs.Option.{ok_or, option_or}
 use Rattle.oxts.specs.declared.format.Format.{Format}
 use Rattle.oxts.specs.declared.format.Format.TheVariants.{Ncom, Mcom}
 use Rattle.oxts_fields.specs.declared.layout.Form.{Form}
@@ -99,19 +100,11 @@ layout_in f c n r =
 abbrev pub tabled : Format → ℕ → List Run → Bool
 tabled f c = list_any (concerns f c)
 
-abbrev pub or_else : Option Layout → Option Layout → Option Layout
-or_else (Some l) o = Some l
-or_else None o = o
-
 -- the layout by the first run of a table that has it
 abbrev pub layout_of : Format → ℕ → ℕ → List Run → Option Layout
 layout_of f c n [] = None
-layout_of f c n (r ∷ rs) = or_else (layout_in f c n r) (layout_of f c n rs)
-
-abbrev pub or_refuse : {A : Type 0} → Option A → Refusal → Result A Refusal
-or_refuse (Some a) x = Ok a
-or_refuse None x = Err x
+layout_of f c n (r ∷ rs) = option_or (layout_in f c n r) (layout_of f c n rs)
 
 -- the layout of a field by the table: 9 where the channel is not in it, and then 10 where the channel has no such field
 abbrev pub layout_asked : Format → ℕ → ℕ → Result Layout Refusal
-layout_asked f c n = cond (tabled f c field_table) (or_refuse (layout_of f c n field_table) NoField) (Err NoChannel)
+layout_asked f c n = cond (tabled f c field_table) (ok_or (layout_of f c n field_table) NoField) (Err NoChannel)

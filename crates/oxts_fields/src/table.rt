@@ -176,6 +176,7 @@ const RUNS: [Run; 41] = [
     Run(Formats::Both, 48, 3, 6, Form::Unsigned1, Rule::Not(255), 2),
 ];
 
+#[tactic(auto, unfolding(crate::specs::Table::field_table))]
 pub fn field_table() -> &'static [Run; 41]
     ensures value { result.now ≡ field_table }
 {
@@ -219,12 +220,12 @@ impl Run {
     fn layout(&self, format: Format, channel: u32, field: u32) -> Option<Layout>
         ensures value { result ≡ layout_in format channel field self.now }
     {
-        let first = self.2 as u32;
-        if !self.concerns(format, channel) || field < first || field - first >= self.6 as u32 {
+        let step = field.checked_sub(self.2 as u32)?;
+        if !self.concerns(format, channel) || step >= self.6 as u32 {
             return None;
         }
         Some(Layout {
-            place: self.3 as u32 + offset(self.4, field - first),
+            place: self.3 as u32 + offset(self.4, step),
             form: self.4,
             rule: self.5,
         })

@@ -1,8 +1,0 @@
-use Rattle.std.proofs.Common.{refl}
-use Rattle.oxts_fields.specs.Table.{field_table}
-use Rattle.oxts_fields.proofs.table.field_table.Goals as goal
-
--- one computed comparison of both tables
-pub returns : goal.returns
-unfolding field_table
-returns c = record { value = refl }
