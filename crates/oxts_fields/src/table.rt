@@ -176,7 +176,6 @@ const RUNS: [Run; 41] = [
     Run(Formats::Both, 48, 3, 6, Form::Unsigned1, Rule::Not(255), 2),
 ];
 
-#[tactic(auto, unfolding(crate::specs::Table::field_table))]
 pub fn field_table() -> &'static [Run; 41]
     ensures value { result.now ≡ field_table }
 {
