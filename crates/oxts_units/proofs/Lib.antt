@@ -1,1 +1,1 @@
-pub mod Days
+pub mod Tens

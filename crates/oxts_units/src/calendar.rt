@@ -57,13 +57,16 @@ fn year_day(days: u64) -> YearDay
     ensures counted { years_days (result.year - 1980) + result.day ≡ days }
     ensures within { result.day < year_days result.year }
 {
-    let mut year = 1980;
     let mut day = days;
-    while day >= days_of_year(year) {
-        day -= days_of_year(year);
-        year += 1;
+    for year in 1980..=1980 + days {
+        let length = days_of_year(year);
+        if day < length {
+            return YearDay { year, day };
+        }
+        day -= length;
     }
-    YearDay { year, day }
+    // Each year takes a day or more, so the range has the year.
+    unreachable!()
 }
 
 // A day of a year by its month.
@@ -74,16 +77,21 @@ fn month_date(place: YearDay) -> Date
     ensures day { (1 ≤ result.day) × (result.day ≤ month_days (leap place.year) result.month) }
     ensures counted { months_days (leap place.year) (result.month - 1) + result.day ≡ place.day + 1 }
 {
-    let year = place.year;
-    let mut month = 1;
-    let mut day = place.day;
-    while month < 12 && day >= days_of_month(year, month) {
-        day -= days_of_month(year, month);
-        month += 1;
+    let YearDay { year, mut day } = place;
+    for month in 1..12 {
+        let length = days_of_month(year, month);
+        if day < length {
+            return Date {
+                year,
+                month,
+                day: day + 1,
+            };
+        }
+        day -= length;
     }
     Date {
         year,
-        month,
+        month: 12,
         day: day + 1,
     }
 }
@@ -105,13 +113,13 @@ pub fn gps_time(milliseconds: u64) -> GpsTime
 
 impl fmt::Display for GpsTime {
     fn fmt<W: fmt::Write>(&self, f: &mut fmt::Formatter<W>) -> fmt::Result {
-        let year = self.date.year;
-        let month = self.date.month;
-        let day = self.date.day;
-        let hour = self.hour;
-        let minute = self.minute;
-        let second = self.second;
-        let millisecond = self.millisecond;
+        let GpsTime {
+            date: Date { year, month, day },
+            hour,
+            minute,
+            second,
+            millisecond,
+        } = *self;
         write!(f, "{year:04}-{month:02}-{day:02}")?;
         write!(f, "T{hour:02}:{minute:02}:{second:02}.{millisecond:03}")
     }

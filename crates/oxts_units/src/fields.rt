@@ -1,7 +1,7 @@
 // The fields of status channels by name and unit, in the order of channels and fields. A field that only one format has is here too.
 use crate::measure::{Scale, Unit};
 
-// Channel, field, name and unit.
+// Channel, field, name and unit. They go by place: a row is a line, which names would spread over six.
 #[derive(Clone, Copy)]
 pub struct FieldText(pub u8, pub u8, pub &'static str, pub Unit);
 

@@ -12,7 +12,7 @@ pub enum Scale {
     Double,
 }
 
-// A unit by its symbol, and the scale in which raw numbers count it.
+// A unit by its symbol, and the scale in which raw numbers count it. Fields go by place: a unit is a line of a table, which names would spread over four.
 #[derive(Clone, Copy)]
 pub struct Unit(pub &'static str, pub Scale);
 
@@ -24,39 +24,33 @@ pub struct Measure {
 }
 
 // A number with its point before the last `places` digits.
+#[tactic(auto, using(crate::proofs::Tens::ten_some))]
 fn write_decimal<W: fmt::Write>(
     f: &mut fmt::Formatter<W>,
     magnitude: u64,
-    places: usize,
+    places: u8,
 ) -> fmt::Result {
-    let mut digits = [0u8; 20];
-    let mut rest = magnitude;
-    for digit in digits.iter_mut() {
-        *digit = (rest % 10) as u8;
-        rest /= 10;
+    if places == 0 {
+        return write!(f, "{magnitude}");
     }
-    let mut begun = false;
-    for (i, digit) in digits.iter().enumerate().rev() {
-        begun = begun || *digit != 0 || i <= places;
-        if begun {
-            write!(f, "{digit}")?;
-        }
-        if i == places && places > 0 {
-            f.write_char('.')?;
-        }
-    }
-    Ok(())
+    let width = places as usize;
+    let (whole, fraction) = match 10u64.checked_pow(places as u32) {
+        Some(one) => (magnitude / one, magnitude % one),
+        None => (0, magnitude),
+    };
+    write!(f, "{whole}.{fraction:0width$}")
 }
 
 impl fmt::Display for Measure {
     fn fmt<W: fmt::Write>(&self, f: &mut fmt::Formatter<W>) -> fmt::Result {
-        match self.unit.1 {
+        let Unit(_, scale) = self.unit;
+        match scale {
             Scale::Steps(each, places) => {
                 if self.raw < 0 {
                     f.write_char('-')?;
                 }
                 let magnitude = self.raw.unsigned_abs().saturating_mul(each as u64);
-                write_decimal(f, magnitude, places as usize)
+                write_decimal(f, magnitude, places)
             }
             Scale::Single => {
                 let bits = (self.raw.cast_unsigned() & 0xFFFF_FFFF) as u32;

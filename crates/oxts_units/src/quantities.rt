@@ -1,7 +1,7 @@
 // The quantities of inertial and solution messages, by name and unit, in the order in which a message has them: the time of an inertial message first, then the others.
 use crate::measure::{Scale, Unit};
 
-// Name and unit.
+// Name and unit. They go by place: a row is a line, which names would spread over four.
 #[derive(Clone, Copy)]
 pub struct Quantity(pub &'static str, pub Unit);
 
