@@ -23,23 +23,18 @@ split_more low high m cs h s =
     let content : List ℕ = take n m in
     let size : length content ≡ n = length-take-le n m h in
     let behind : drop (2 + length content + span cs) (low ∷ high ∷ m) ≡ drop (span cs) (drop n m) =
-    (let e : 2 + length content + span cs ≡ 2 + (n + span cs) = omega arith in
-    ap (λ k. drop k (low ∷ high ∷ m)) e ∙ front (n + span cs) ∙ sym (drop-drop (span cs) n m)) in
+    (let e : 2 + length content + span cs ≡ suc (suc (n + span cs)) = omega arith in
+    ap (λ k. drop k (low ∷ high ∷ m)) e ∙ sym (drop-drop (span cs) n m)) in
     record {
       whole = λ b.
           let lo : length content % 256 ≡ low = omega (arith, size, b.0, b.1.0) in
           let hi : length content / 256 ≡ high = omega (arith, size, b.0, b.1.0) in
           let rest = s.whole (bytes_drop n m b.1.1) in
           let tail : m ≡ content ++ (flat_map encoded cs ++ drop (span cs) (drop n m)) = sym (take-append-drop n m) ∙ ap (λ z. content ++ z) rest in
-          ap (λ z. low ∷ high ∷ z) tail ∙ ap (λ z. z ∷ high ∷ content ++ (flat_map encoded cs ++ drop (span cs) (drop n m))) (sym lo)
-          ∙ ap (λ z. length content % 256 ∷ z ∷ content ++ (flat_map encoded cs ++ drop (span cs) (drop n m))) (sym hi)
-          ∙ ap (λ z. length content % 256 ∷ length content / 256 ∷ z) (sym (append_assoc content (flat_map encoded cs) (drop (span cs) (drop n m))))
-          ∙ ap (λ z. (encoded content ++ flat_map encoded cs) ++ z) (sym behind);
+          let joined = append_assoc content (flat_map encoded cs) (drop (span cs) (drop n m)) in
+          cc;
       cut = subst Cut (sym behind) s.cut;
     }
-  where
-    front : (k : ℕ) → drop (2 + k) (low ∷ high ∷ m) ≡ drop k m
-    front k = let e : 2 + k ≡ suc (suc k) = omega arith in ap (λ j. drop j (low ∷ high ∷ m)) e
 
 split_none : (m : List ℕ) → Cut m → Split m []
 split_none m c = record { whole = λ b. refl; cut = c }
@@ -52,9 +47,9 @@ split_by zero (low ∷ high ∷ m) h = absurd (omega arith)
 split_by (suc k) (low ∷ high ∷ m) h =
     let n = low + high * 256 in
     ⊎_elim
-    (λ (c : length m < n). subst (Split (low ∷ high ∷ m)) (sym (first_cut (low ∷ high ∷ m) n (omega arith) refl c)) (split_none (low ∷ high ∷ m) c))
+    (λ (c : length m < n). subst (Split (low ∷ high ∷ m)) (sym (first_cut low high n m refl c)) (split_none (low ∷ high ∷ m) c))
     (λ (c : n ≤ length m).
-    subst (Split (low ∷ high ∷ m)) (sym (first_whole (low ∷ high ∷ m) n (omega arith) refl c))
+    subst (Split (low ∷ high ∷ m)) (sym (first_whole low high n m refl c))
     (split_more low high m (records 0 (drop n m)) c (split_by k (drop n m) (simp length-drop (omega arith)))))
     (cases_lt (length m) n)
 

@@ -1,18 +1,14 @@
 -- How one take makes another, and how several make one.
 use Rattle.std.proofs.Common.{◌≡◌, ℕ, zero, suc, ◌+◌, ◌-◌, ◌<◌, ◌≤◌, min, List, [], ◌∷◌, ◌++◌, length, take, drop, sym, refl, ap, ◌∙◌, inl, inr, append_assoc, arith, length-append, length-drop, take-append-drop, length-take, length-take-le, drop-drop, take_at, take-add, drop_at}
 use native.Mathlib.Nat.{sub-zero}
-use lib.Seq.{drop-append-le, take-append-le}
 use borrow.Rule.Slice.PartMut.{post_of, put_mid}
-use Rattle.std.proofs.lemmas.List.{take_rest}
+use Rattle.std.proofs.lemmas.List.{drop-append-le}
 use Rattle.std.proofs.lemmas.Bool.{cases_lt}
 use Rattle.line.specs.Lines.{Taken, Filled, contents}
 
 -- what a buffer holds whose first m bytes were lent, and came back with t for their first k
 front : (buf t : List ℕ) (m k : ℕ) → k ≤ length (take m buf) → (t ++ drop k (take m buf)) ++ drop m buf ≡ t ++ drop k buf
-front buf t m k h =
-    let e : drop k (take m buf) ++ drop m buf ≡ drop k buf =
-    sym (drop-append-le k (take m buf) (drop m buf) h) ∙ ap (drop k) (take-append-drop m buf) in
-    simp append_assoc (ap (λ z. t ++ z) e)
+front buf t m k h = simp append_assoc (ap (λ z. t ++ z) (sym (drop-append-le k (take m buf) (drop m buf) h) ∙ ap (drop k) (take-append-drop m buf)))
 
 -- A layer that shows v of the w below, and lends the line below the first m bytes of the buffer: k bytes taken below are k taken
 -- from v, if v begins with them.
@@ -32,29 +28,9 @@ through v w buf after w' f m k l s e t =
       moved = ap (λ z. z ++ post_of 0 (m - 0) buf) t.moved ∙ front buf (take k w) (m - 0) k t.fits ∙ ap (λ z. z ++ drop k buf) (sym tv);
     }
 
--- what `copy_front` does is a take, where `&bytes[k..]` is left
-pub copied : (bytes buf f : List ℕ) (k most : ℕ) → 0 < most → k ≡ min (min (length bytes) (length buf)) most → f ≡ take k bytes ++ drop k buf →
-    Taken bytes buf k (take (length bytes - k) (drop k bytes)) f
-copied bytes buf f k most h e m = record { waited = omega arith; fits = omega arith; some = λ x y. omega arith; rest = take_rest bytes k; moved = m }
-
--- a take from w, while more waits behind it
-pub longer : (v w behind buf w' f : List ℕ) (k : ℕ) → w ++ behind ≡ v → 0 < length w → Taken w buf k w' f → Taken v buf k (w' ++ behind) f
-longer v w behind buf w' f k e h t =
-    let kw : k ≤ length w = t.waited in
-    let l : length v ≡ length w + length behind = sym (ap length e) ∙ length-append w behind in
-    record {
-      waited = omega arith;
-      fits = t.fits;
-      some = λ x y. t.some h y;
-      rest = ap (λ z. z ++ behind) t.rest ∙ sym (drop-append-le k w behind kw) ∙ ap (drop k) e;
-      moved = t.moved ∙ ap (λ z. z ++ drop k buf) (sym (take-append-le k w behind kw) ∙ ap (take k) e);
-    }
-
 -- what a meter shows, with k taken
 pub credit_split : (w : List ℕ) (credit k : ℕ) → k ≤ credit → take credit w ≡ take k w ++ take (credit - k) (drop k w)
-credit_split w credit k h =
-    let e : k + (credit - k) ≡ credit = omega arith in
-    ap (λ n. take n w) (sym e) ∙ take-add k (credit - k) w
+credit_split w credit k h = let e : k + (credit - k) ≡ credit = omega arith in ap (λ n. take n w) (sym e) ∙ take-add k (credit - k) w
 
 -- what an opener shows, with k of the bytes due taken
 pub contents_split : (w : List ℕ) (due k : ℕ) → k ≤ due → k ≤ length w → contents due w ≡ take k w ++ contents (due - k) (drop k w)
@@ -106,6 +82,6 @@ done W O w o w' f d m k em dm dw ew eo ek t =
     let e : d + k ≡ d = omega arith in
     record {
       count = omega arith;
-      rest = n.2 ∙ ap (λ j. drop j W) e;
-      moved = n.3 ∙ ap (λ j. take j W ++ drop j O) e;
+      rest = grind (arith, n.2);
+      moved = grind (arith, n.3);
     }

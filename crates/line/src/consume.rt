@@ -21,6 +21,7 @@ pub fn fill<L: Line>(line: &mut L, out: &mut [u8]) -> usize
 {
     let most = out.len();
     let mut done = 0;
+    // The line picks how many bytes come, so there is nothing to go through by a `for`.
     while done < most {
         let k = line.take(&mut out[done..most]);
         if k == 0 {

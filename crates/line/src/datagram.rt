@@ -32,11 +32,8 @@ impl<'a> Datagram<'a> {
 fn split_record(memory: &[u8]) -> Option<(&[u8], &[u8])>
     ensures split { MatchOption result (records 0 memory.now ≡ []) (λ p. (records 0 memory.now ≡ p.0.now ∷ records 0 p.1.now) × (length memory.now ≡ 2 + length p.0.now + length p.1.now)) }
 {
-    let [low, high, rest @ ..] = memory else {
-        return None;
-    };
-    let length = u16::from_le_bytes([*low, *high]);
-    rest.split_at_checked(length as usize)
+    let (length, rest) = memory.split_first_chunk::<2>()?;
+    rest.split_at_checked(u16::from_le_bytes(*length) as usize)
 }
 
 // How many records the whole memory holds; refused where it does not end with a whole record.
@@ -45,6 +42,7 @@ pub fn record_count(memory: &[u8]) -> Result<usize, RecordRefusal>
 {
     let mut rest = memory;
     let mut count = 0;
+    // An iterator of records would need a type and clauses of its own, longer than this loop.
     while let Some((_, after)) = split_record(rest) {
         rest = after;
         count += 1;
@@ -82,6 +80,7 @@ impl Line for Datagram<'_> {
 }
 
 // What memory holds and what was written into it record by record are the same.
+#[tactic(auto, using(crate::proofs::Memory::written_and_read))]
 pub fn records_read_back()
     ensures laws { WrittenAndRead }
 {}

@@ -38,8 +38,7 @@ impl<L: Line> Meter<L> {
     pub fn into_below(self) -> L
         ensures value { result ≡ self.below }
     {
-        let Meter { below, credit: _ } = self;
-        below
+        self.below
     }
 }
 

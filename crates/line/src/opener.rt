@@ -24,8 +24,7 @@ impl<L: Line> Opener<L> {
     pub fn into_below(self) -> L
         ensures value { result ≡ self.below }
     {
-        let Opener { below, due: _ } = self;
-        below
+        self.below
     }
 }
 
@@ -42,10 +41,10 @@ impl<L: Line> Line for Opener<L> {
             return 0;
         }
         while self.due == 0 {
-            match take_byte(&mut self.below) {
-                Some(length) => self.due = length,
-                None => return 0,
-            }
+            let Some(length) = take_byte(&mut self.below) else {
+                return 0;
+            };
+            self.due = length;
         }
         let most = buf.len().min(self.due as usize);
         let k = self.below.take(&mut buf[0..most]);

@@ -1,4 +1,4 @@
-// Why a meter grants no credit, and why a memory is not all records.
+// Why a meter grants no credit, and why a memory is not all records. A refusal carries a value, so its number is a match and no discriminant.
 ghost use Rattle.std.specs.Prelude.{◌≡◌};
 ghost use Rattle.line.specs.Refusals.{grant_number, record_number};
 
