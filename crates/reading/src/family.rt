@@ -1,10 +1,12 @@
 // A family of packets: its longest length, its verdicts and its record. Three laws are all that a new family owes.
-ghost use Rattle.std.specs.Prelude.{◌≡◌, ◌<◌, ◌≤◌, length};
+ghost use Rattle.std.specs.Prelude.{◌≡◌, ℕ, ◌<◌, ◌≤◌, length};
 ghost use Rattle.reading.specs.Reading.{Model, Laws, Waits, Quiet};
 
 use crate::message::Verdict;
 
 pub trait Family {
+    ghost LONGEST: { ℕ };
+
     // No packet of the family is longer.
     const LONGEST: usize;
 
@@ -13,11 +15,9 @@ pub trait Family {
 
     ghost model: { Model Self.Record };
 
-    ghost laws: { Laws model };
+    ghost longest: { LONGEST ≡ model.longest };
 
-    // The constant again: only a function has a contract that generic code can cite.
-    fn longest_packet() -> usize
-        ensures value { result ≡ model.longest };
+    ghost laws: { Laws model };
 
     // The verdict on the first bytes at a place.
     fn judge(bytes: &[u8]) -> Verdict
