@@ -1,2 +1,1 @@
 pub mod Manual
-pub mod Quiets
