@@ -15,7 +15,7 @@ use Rattle.oxts.specs.declared.status.Structure.TheVariants.{StructureA, Structu
 use Rattle.oxts.specs.Formats.{longest_of}
 use Rattle.oxts.specs.Status.{is_structure_a, structure_of}
 use Rattle.oxts_judge.specs.Bodies.{inertial_body, solution_body, status_body, passed_body, packet_body}
-use Rattle.oxts_judge.specs.Judge.{sum_of, sum_before, defect, sum_defect, unless, structure_in, sync_verdict, status_verdict, inertial_verdict, solution_verdict, packet_verdict, judge_of}
+use Rattle.oxts_judge.specs.Judge.{sum_of, sum_before, defect, sum_defect, unless, structure_in, sync_verdict, status_verdict, early_verdict, packet_verdict, judge_of}
 use Rattle.oxts_judge.specs.Lawful.{longest_above, at_1, at_23, at_62, at_longest, at_others, front_22, of_every}
 use Rattle.oxts_judge.specs.Models.{oxts_model}
 use Rattle.oxts_judge.specs.Packets.{StructureAPacket, StructureBPacket, Begins, AcceptsPackets}
@@ -66,13 +66,9 @@ early : (d : Option Defect) (b : Body) → decided (unless d (Early b)) ≡ wron
 early None b = refl
 early (Some d) b = refl
 
-inertial_decided : (t : Structure) (p : List ℕ) → decided (inertial_verdict (Some t) p) ≡ if_a t (wrong (sum_defect InertialSum 22 p))
-inertial_decided StructureA p = early (sum_defect InertialSum 22 p) (inertial_body p)
-inertial_decided StructureB p = refl
-
-solution_decided : (t : Structure) (p : List ℕ) → decided (solution_verdict (Some t) p) ≡ if_a t (wrong (sum_defect SolutionSum 61 p))
-solution_decided StructureA p = early (sum_defect SolutionSum 61 p) (solution_body p)
-solution_decided StructureB p = refl
+early_decided : (k : Cause) (told : List ℕ → Body) (n : ℕ) (t : Structure) (p : List ℕ) → decided (early_verdict k told n (Some t) p) ≡ if_a t (wrong (sum_defect k n p))
+early_decided k told n StructureA p = early (sum_defect k n p) (told p)
+early_decided k told n StructureB p = refl
 
 known_in : (m : ℕ) (t : Structure) (p : List ℕ) → 21 < m → structure_in p ≡ Some t → structure_in (take m p) ≡ Some t
 known_in m t p h e = ap structure_of (get_or-take m p 21 0 h) ∙ e
@@ -81,15 +77,18 @@ module _ (f : Format) (p : List ℕ) (long : length p ≡ longest_of f) where
   front_1 : judge_of f (take 1 p) ≡ sync_verdict (get_or p 0 0)
   front_1 = at_1 f (take 1 p) (length-take-le 1 p (omega (arith, longest_above f))) ∙ ap sync_verdict (get_or-take 1 p 0 0 (omega arith))
 
+  -- the front of m bytes, where a batch ends
+  front_early : (k : Cause) (told : List ℕ → Body) (n m : ℕ) → n < m → 21 < m → m ≤ 62 → ((bs : List ℕ) → length bs ≡ m → judge_of f bs ≡ early_verdict k told n (structure_in bs) bs) →
+      (t : Structure) → structure_in p ≡ Some t → decided (judge_of f (take m p)) ≡ if_a t (wrong (sum_defect k n p))
+  front_early k told n m behind status short at t e =
+      ap decided (at (take m p) (length-take-le m p (omega (arith, longest_above f))) ∙ ap (λ o. early_verdict k told n o (take m p)) (known_in m t p status e))
+      ∙ early_decided k told n t (take m p) ∙ ap (λ d. if_a t (wrong d)) (defect_in k n m p behind)
+
   front_23 : (t : Structure) → structure_in p ≡ Some t → decided (judge_of f (take 23 p)) ≡ if_a t (wrong (sum_defect InertialSum 22 p))
-  front_23 t e =
-      ap decided (at_23 f (take 23 p) (length-take-le 23 p (omega (arith, longest_above f))) ∙ ap (λ o. inertial_verdict o (take 23 p)) (known_in 23 t p (omega arith) e))
-      ∙ inertial_decided t (take 23 p) ∙ ap (λ d. if_a t (wrong d)) (defect_in InertialSum 22 23 p (omega arith))
+  front_23 = front_early InertialSum inertial_body 22 23 (omega arith) (omega arith) (omega arith) (at_23 f)
 
   front_62 : (t : Structure) → structure_in p ≡ Some t → decided (judge_of f (take 62 p)) ≡ if_a t (wrong (sum_defect SolutionSum 61 p))
-  front_62 t e =
-      ap decided (at_62 f (take 62 p) (length-take-le 62 p (omega (arith, longest_above f))) ∙ ap (λ o. solution_verdict o (take 62 p)) (known_in 62 t p (omega arith) e))
-      ∙ solution_decided t (take 62 p) ∙ ap (λ d. if_a t (wrong d)) (defect_in SolutionSum 61 62 p (omega arith))
+  front_62 = front_early SolutionSum solution_body 61 62 (omega arith) (omega arith) (omega arith) (at_62 f)
 
 -- what a whole verdict b tells of the packet
 record Told (f : Format) (p : List ℕ) (b : Body) : Type 0 where

@@ -1,5 +1,6 @@
 -- The verdict on the first bytes at a place, by their number.
 use Rattle.std.specs.Prelude.{ℕ, ◌-◌, ◌%◌, cond, List, length, Some, None, sum, Option, ◌==◌, slice_index, slice_range}
+use Rattle.reading.specs.declared.message.Body.{Body}
 use Rattle.reading.specs.declared.message.Defect.{Defect}
 use Rattle.reading.specs.declared.message.Verdict.{Verdict}
 use Rattle.reading.specs.declared.message.Verdict.TheVariants.{Wait, Early, Fault, Whole}
@@ -44,22 +45,28 @@ abbrev pub status_verdict : Option Structure → ℕ → Verdict
 status_verdict (Some t) s = Wait
 status_verdict None s = Fault (defect Status s 0)
 
--- 23 bytes: Batch A and its checksum, in structure-A alone
-abbrev pub inertial_verdict : Option Structure → List ℕ → Verdict
-inertial_verdict (Some StructureA) bs = unless (sum_defect InertialSum 22 bs) (Early (inertial_body bs))
-inertial_verdict (Some StructureB) bs = Wait
-inertial_verdict None bs = Wait
+-- a batch that ends at byte n, where its checksum is, in structure-A alone; `told` is what it tells
+abbrev pub early_verdict : Cause → (List ℕ → Body) → ℕ → Option Structure → List ℕ → Verdict
+early_verdict c told n (Some StructureA) bs = unless (sum_defect c n bs) (Early (told bs))
+early_verdict c told n (Some StructureB) bs = Wait
+early_verdict c told n None bs = Wait
 
--- 62 bytes: Batch B and its checksum, in structure-A alone
+-- 23 bytes: Batch A and its checksum
+abbrev pub inertial_verdict : Option Structure → List ℕ → Verdict
+inertial_verdict = early_verdict InertialSum inertial_body 22
+
+-- 62 bytes: Batch B and its checksum
 abbrev pub solution_verdict : Option Structure → List ℕ → Verdict
-solution_verdict (Some StructureA) bs = unless (sum_defect SolutionSum 61 bs) (Early (solution_body bs))
-solution_verdict (Some StructureB) bs = Wait
-solution_verdict None bs = Wait
+solution_verdict = early_verdict SolutionSum solution_body 61
+
+-- a packet whose last checksum is byte n
+abbrev pub whole_verdict : Format → ℕ → Option Structure → List ℕ → Verdict
+whole_verdict f n (Some t) bs = unless (sum_defect PacketSum n bs) (Whole (packet_body f t bs))
+whole_verdict f n None bs = Wait
 
 -- the longest length: the last checksum
 abbrev pub packet_verdict : Format → Option Structure → List ℕ → Verdict
-packet_verdict f (Some t) bs = unless (sum_defect PacketSum (longest_of f - 1) bs) (Whole (packet_body f t bs))
-packet_verdict f None bs = Wait
+packet_verdict f = whole_verdict f (longest_of f - 1)
 
 abbrev pub judge_of : Format → List ℕ → Verdict
 judge_of f bs =

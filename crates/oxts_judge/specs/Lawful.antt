@@ -9,6 +9,7 @@ use Rattle.reading.specs.declared.message.Verdict.{Verdict}
 use Rattle.reading.specs.declared.message.Verdict.TheVariants.{Wait, Early, Fault, Whole}
 use Rattle.reading.specs.Keeps.{InTurn, is_last}
 use Rattle.reading.specs.Reading.{Laws, Open, Proper, proper, decided}
+use Rattle.oxts_judge.specs.declared.cause.Cause.{Cause}
 use Rattle.oxts_judge.specs.declared.cause.Cause.TheVariants.{InertialSum, SolutionSum, PacketSum}
 use Rattle.oxts.specs.declared.format.Format.{Format}
 use Rattle.oxts.specs.declared.format.Format.TheVariants.{Ncom, Mcom}
@@ -17,7 +18,7 @@ use Rattle.oxts.specs.declared.status.Structure.TheVariants.{StructureA, Structu
 use Rattle.oxts.specs.Formats.{longest_of}
 use Rattle.oxts.specs.Status.{structure_of}
 use Rattle.oxts_judge.specs.Bodies.{inertial_body, solution_body, status_body, passed_body, packet_body}
-use Rattle.oxts_judge.specs.Judge.{sum_defect, unless, structure_in, sync_verdict, status_verdict, inertial_verdict, solution_verdict, packet_verdict, judge_of}
+use Rattle.oxts_judge.specs.Judge.{sum_defect, unless, structure_in, sync_verdict, status_verdict, early_verdict, inertial_verdict, solution_verdict, packet_verdict, judge_of}
 use Rattle.oxts_judge.specs.Models.{oxts_model}
 
 pub longest_above : (f : Format) → 62 < longest_of f
@@ -65,15 +66,10 @@ module _ (f : Format) (bs : List ℕ) (P : Verdict → Type 0) (wait : P Wait) (
   of_status None s = fault _
   of_status (Some t) s = wait
 
-  of_inertial : (o : Option Structure) → P (inertial_verdict o bs)
-  of_inertial None = wait
-  of_inertial (Some StructureA) = of_sum (sum_defect InertialSum 22 bs) (Early (inertial_body bs)) (λ e. inertial)
-  of_inertial (Some StructureB) = wait
-
-  of_solution : (o : Option Structure) → P (solution_verdict o bs)
-  of_solution None = wait
-  of_solution (Some StructureA) = of_sum (sum_defect SolutionSum 61 bs) (Early (solution_body bs)) (λ e. solution)
-  of_solution (Some StructureB) = wait
+  of_early : (c : Cause) (told : List ℕ → Body) (n : ℕ) → P (Early (told bs)) → (o : Option Structure) → P (early_verdict c told n o bs)
+  of_early c told n p None = wait
+  of_early c told n p (Some StructureA) = of_sum (sum_defect c n bs) (Early (told bs)) (λ e. p)
+  of_early c told n p (Some StructureB) = wait
 
   of_packet : length bs ≡ longest_of f → (o : Option Structure) → structure_in bs ≡ o → P (packet_verdict f o bs)
   of_packet long None e = wait
@@ -83,8 +79,8 @@ module _ (f : Format) (bs : List ℕ) (P : Verdict → Type 0) (wait : P Wait) (
   of_every =
       cond_both (length bs == 1) (sync_verdict (slice_index bs 0)) _ P (λ _. cond_both (slice_index bs 0 == 231) Wait _ P (λ _. wait) (λ _. fault _)) (λ _.
       cond_both (length bs == 22) (status_verdict (structure_in bs) (slice_index bs 21)) _ P (λ _. of_status (structure_in bs) (slice_index bs 21)) (λ _.
-      cond_both (length bs == 23) (inertial_verdict (structure_in bs) bs) _ P (λ _. of_inertial (structure_in bs)) (λ _.
-      cond_both (length bs == 62) (solution_verdict (structure_in bs) bs) _ P (λ _. of_solution (structure_in bs)) (λ _.
+      cond_both (length bs == 23) (inertial_verdict (structure_in bs) bs) _ P (λ _. of_early InertialSum inertial_body 22 inertial (structure_in bs)) (λ _.
+      cond_both (length bs == 62) (solution_verdict (structure_in bs) bs) _ P (λ _. of_early SolutionSum solution_body 61 solution (structure_in bs)) (λ _.
       cond_both (length bs == longest_of f) (packet_verdict f (structure_in bs) bs) Wait P (λ e. of_packet (eqb-true _ _ e) (structure_in bs) refl) (λ _. wait)))))
 
 packet_proper : (f : Format) (t : Structure) (bs : List ℕ) → proper (packet_body f t bs).kind ≡ true

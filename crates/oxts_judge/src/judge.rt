@@ -1,14 +1,14 @@
 // The verdict on the first bytes at a place.
-ghost use Rattle.std.specs.Prelude.{◌≡◌, ◌-◌, ◌<◌, length, slice_index};
-ghost use Rattle.oxts.specs.Formats.{longest_of};
-ghost use Rattle.oxts_judge.specs.Judge.{sum_of, sum_defect, structure_in, sync_verdict, status_verdict, inertial_verdict, solution_verdict, packet_verdict, judge_of};
+ghost use Rattle.std.specs.Prelude.{◌≡◌, ◌-◌, ℕ, List, length, slice_index};
+ghost use Rattle.std.specs.Fn.{FnOnceReturnsAt};
+ghost use Rattle.oxts_judge.specs.Judge.{sum_of, sum_defect, structure_in, sync_verdict, status_verdict, early_verdict, whole_verdict, judge_of};
 
 use crate::bodies::{inertial_body, packet_body, solution_body};
 use crate::cause::Cause;
 use oxts::format::Format;
 use oxts::status::{Structure, structure_of};
 use oxts::words::byte_at;
-use reading::message::{Defect, Verdict};
+use reading::message::{Body, Defect, Verdict};
 
 // The sum of the bytes, modulo 256.
 fn checksum(bytes: &[u8]) -> u8
@@ -21,40 +21,29 @@ fn checksum(bytes: &[u8]) -> u8
     sum
 }
 
-// What is wrong where the last byte is not the sum of those between it and the sync byte.
+// What is wrong where the last byte is not the sum of those between it and the first.
 fn sum_defect(bytes: &[u8], cause: Cause) -> Option<Defect>
-    requires long { 1 < length bytes.now }
     ensures value { result ≡ sum_defect cause (length bytes.now - 1) bytes.now }
 {
-    let [_, summed @ ..] = bytes else {
-        return None;
-    };
-    let [body @ .., found] = summed else {
-        return None;
-    };
+    let (found, front) = bytes.split_last()?;
     let found = *found;
-    let expected = checksum(body);
-    if found == expected {
-        None
-    } else {
-        Some(Defect {
-            cause: cause.number(),
-            found,
-            expected,
-        })
-    }
+    let expected = checksum(front.get(1..).unwrap_or(&[]));
+    (found != expected).then(|| Defect {
+        cause: cause.number(),
+        found,
+        expected,
+    })
 }
 
 // 1 byte: the sync byte.
 fn judge_sync(bytes: &[u8]) -> Verdict
-    requires some { 0 < length bytes.now }
     ensures value { result ≡ sync_verdict (slice_index bytes.now 0) }
 {
-    match bytes {
-        [0xE7, ..] | [] => Verdict::Wait,
-        [found, ..] => Verdict::Fault(Defect {
+    match byte_at(bytes, 0) {
+        0xE7 => Verdict::Wait,
+        found => Verdict::Fault(Defect {
             cause: Cause::Sync.number(),
-            found: *found,
+            found,
             expected: 0xE7,
         }),
     }
@@ -75,28 +64,15 @@ fn judge_status(bytes: &[u8]) -> Verdict
     }
 }
 
-// 23 bytes: Batch A and its checksum, in structure-A alone.
-fn judge_inertial(bytes: &[u8]) -> Verdict
-    requires long { length bytes.now ≡ 23 }
-    ensures value { result ≡ inertial_verdict (structure_in bytes.now) bytes.now }
+// 23 and 62 bytes: a batch and the checksum behind it, in structure-A alone.
+fn judge_early<B: FnOnce(&[u8]) -> Body>(bytes: &[u8], cause: Cause, body: B) -> Verdict
+    requires callable { B.IsAlwaysCallable body }
+    ensures value { (told : List ℕ → Body) → ((b : Body) → FnOnceReturnsAt B.FnOnce body bytes.now b → b ≡ told bytes.now)
+        → result ≡ early_verdict cause told (length bytes.now - 1) (structure_in bytes.now) bytes.now }
 {
     match structure_of(byte_at(bytes, 21)) {
-        Some(Structure::StructureA) => match sum_defect(bytes, Cause::InertialSum) {
-            None => Verdict::Early(inertial_body(bytes)),
-            Some(defect) => Verdict::Fault(defect),
-        },
-        _ => Verdict::Wait,
-    }
-}
-
-// 62 bytes: Batch B and its checksum, in structure-A alone.
-fn judge_solution(bytes: &[u8]) -> Verdict
-    requires long { length bytes.now ≡ 62 }
-    ensures value { result ≡ solution_verdict (structure_in bytes.now) bytes.now }
-{
-    match structure_of(byte_at(bytes, 21)) {
-        Some(Structure::StructureA) => match sum_defect(bytes, Cause::SolutionSum) {
-            None => Verdict::Early(solution_body(bytes)),
+        Some(Structure::StructureA) => match sum_defect(bytes, cause) {
+            None => Verdict::Early(body(bytes)),
             Some(defect) => Verdict::Fault(defect),
         },
         _ => Verdict::Wait,
@@ -105,16 +81,14 @@ fn judge_solution(bytes: &[u8]) -> Verdict
 
 // The longest length: the last checksum.
 fn judge_packet(format: Format, bytes: &[u8]) -> Verdict
-    requires long { length bytes.now ≡ longest_of format }
-    ensures value { result ≡ packet_verdict format (structure_in bytes.now) bytes.now }
+    ensures value { result ≡ whole_verdict format (length bytes.now - 1) (structure_in bytes.now) bytes.now }
 {
-    let Some(structure) = structure_of(byte_at(bytes, 21)) else {
-        return Verdict::Wait;
-    };
-    match sum_defect(bytes, Cause::PacketSum) {
-        None => Verdict::Whole(packet_body(format, structure, bytes)),
-        Some(defect) => Verdict::Fault(defect),
-    }
+    structure_of(byte_at(bytes, 21)).map_or(Verdict::Wait, |structure| {
+        sum_defect(bytes, Cause::PacketSum).map_or_else(
+            || Verdict::Whole(packet_body(format, structure, bytes)),
+            Verdict::Fault,
+        )
+    })
 }
 
 // Between these lengths nothing is judged.
@@ -124,8 +98,8 @@ pub fn judge(format: Format, bytes: &[u8]) -> Verdict
     match bytes.len() {
         1 => judge_sync(bytes),
         22 => judge_status(bytes),
-        23 => judge_inertial(bytes),
-        62 => judge_solution(bytes),
+        23 => judge_early(bytes, Cause::InertialSum, inertial_body),
+        62 => judge_early(bytes, Cause::SolutionSum, solution_body),
         n if n == format.longest() => judge_packet(format, bytes),
         _ => Verdict::Wait,
     }
