@@ -2,28 +2,23 @@
 ghost use Rattle.std.specs.Prelude.{◌≡◌};
 ghost use Rattle.oxts_judge.specs.Causes.{cause_number};
 
-#[derive(Clone, Copy)]
+// A cause is told by its number.
+#[derive(Clone, Copy, PartialEq, Eq, Debug)]
 pub enum Cause {
     // The first byte is not the sync byte.
-    Sync,
+    Sync = 0,
     // The navigation status is reserved.
-    Status,
+    Status = 1,
     // The checksum behind Batch A, behind Batch B, or at the end of the packet is wrong.
-    InertialSum,
-    SolutionSum,
-    PacketSum,
+    InertialSum = 2,
+    SolutionSum = 3,
+    PacketSum = 4,
 }
 
 impl Cause {
     pub fn number(self) -> u8
         ensures value { result ≡ cause_number self }
     {
-        match self {
-            Cause::Sync => 0,
-            Cause::Status => 1,
-            Cause::InertialSum => 2,
-            Cause::SolutionSum => 3,
-            Cause::PacketSum => 4,
-        }
+        self as u8
     }
 }
