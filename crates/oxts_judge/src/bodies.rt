@@ -1,4 +1,6 @@
-// What a packet tells, as the body of a message.
+// What a packet tells, as the body of a message. Each kind has quantities of its own, so each writes out its nine.
+#![tactic(auto, unfolding(crate::specs::Bodies::inertial_body, crate::specs::Bodies::solution_body, crate::specs::Bodies::status_body, crate::specs::Bodies::passed_body))]
+
 ghost use Rattle.std.specs.Prelude.{◌≡◌};
 ghost use Rattle.oxts_judge.specs.Bodies.{inertial_body, solution_body, status_body, passed_body, packet_body};
 
@@ -12,21 +14,20 @@ pub(crate) fn inertial_body(packet: &[u8]) -> Body
     ensures value { result ≡ inertial_body packet.now }
 {
     let inertial = inertial_in(packet);
-    let quantities = [
-        inertial.time as i64,
-        inertial.accelerations.x as i64,
-        inertial.accelerations.y as i64,
-        inertial.accelerations.z as i64,
-        inertial.rates.x as i64,
-        inertial.rates.y as i64,
-        inertial.rates.z as i64,
-        0,
-        0,
-    ];
     Body {
         kind: Kind::Inertial,
         code: byte_at(packet, 21),
-        quantities,
+        quantities: [
+            i64::from(inertial.time),
+            i64::from(inertial.accelerations.x),
+            i64::from(inertial.accelerations.y),
+            i64::from(inertial.accelerations.z),
+            i64::from(inertial.rates.x),
+            i64::from(inertial.rates.y),
+            i64::from(inertial.rates.z),
+            0,
+            0,
+        ],
     }
 }
 
@@ -34,21 +35,20 @@ pub(crate) fn solution_body(packet: &[u8]) -> Body
     ensures value { result ≡ solution_body packet.now }
 {
     let solution = solution_in(packet);
-    let quantities = [
-        solution.latitude,
-        solution.longitude,
-        solution.altitude as i64,
-        solution.velocity.x as i64,
-        solution.velocity.y as i64,
-        solution.velocity.z as i64,
-        solution.attitude.x as i64,
-        solution.attitude.y as i64,
-        solution.attitude.z as i64,
-    ];
     Body {
         kind: Kind::Solution,
         code: byte_at(packet, 21),
-        quantities,
+        quantities: [
+            solution.latitude,
+            solution.longitude,
+            i64::from(solution.altitude),
+            i64::from(solution.velocity.x),
+            i64::from(solution.velocity.y),
+            i64::from(solution.velocity.z),
+            i64::from(solution.attitude.x),
+            i64::from(solution.attitude.y),
+            i64::from(solution.attitude.z),
+        ],
     }
 }
 
@@ -56,32 +56,21 @@ fn status_body(format: Format, packet: &[u8]) -> Body
     ensures value { result ≡ status_body format packet.now }
 {
     let batch = status_batch_in(format, packet);
-    let quantities = [
-        batch.batch_s,
-        batch.batch_c.front,
-        batch.batch_c.back as i64,
-        0,
-        0,
-        0,
-        0,
-        0,
-        0,
-    ];
+    let back = i64::from(batch.batch_c.back);
     Body {
         kind: Kind::Status,
         code: batch.channel,
-        quantities,
+        quantities: [batch.batch_s, batch.batch_c.front, back, 0, 0, 0, 0, 0, 0],
     }
 }
 
 fn passed_body(packet: &[u8]) -> Body
     ensures value { result ≡ passed_body packet.now }
 {
-    let quantities = [0; 9];
     Body {
         kind: Kind::Passed,
         code: byte_at(packet, 22),
-        quantities,
+        quantities: [0; 9],
     }
 }
 
