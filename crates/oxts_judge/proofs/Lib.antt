@@ -1,1 +1,2 @@
 pub mod Manual
+pub mod Quiets

@@ -1,6 +1,4 @@
 // What a packet tells, as the body of a message. Each kind has quantities of its own, so each writes out its nine.
-#![tactic(auto, unfolding(crate::specs::Bodies::inertial_body, crate::specs::Bodies::solution_body, crate::specs::Bodies::status_body, crate::specs::Bodies::passed_body))]
-
 ghost use Rattle.std.specs.Prelude.{◌≡◌};
 ghost use Rattle.oxts_judge.specs.Bodies.{inertial_body, solution_body, status_body, passed_body, packet_body};
 
@@ -52,6 +50,7 @@ pub(crate) fn solution_body(packet: &[u8]) -> Body
     }
 }
 
+#[tactic(auto, unfolding(crate::specs::Bodies::status_body))]
 fn status_body(format: Format, packet: &[u8]) -> Body
     ensures value { result ≡ status_body format packet.now }
 {
@@ -64,6 +63,7 @@ fn status_body(format: Format, packet: &[u8]) -> Body
     }
 }
 
+#[tactic(auto, unfolding(crate::specs::Bodies::passed_body))]
 fn passed_body(packet: &[u8]) -> Body
     ensures value { result ≡ passed_body packet.now }
 {
