@@ -40,8 +40,8 @@ fn quiet_blocks(bytes: &[u8]) -> usize
     ensures none { NoSync bytes.now result }
 {
     let mut n = 0;
-    while bytes.len() - n >= 16 {
-        if has_sync(&bytes[n..n + 16]) {
+    for block in bytes.chunks_exact(16) {
+        if has_sync(block) {
             return n;
         }
         n += 16;
@@ -49,21 +49,12 @@ fn quiet_blocks(bytes: &[u8]) -> usize
     n
 }
 
-// How many of the first bytes are not the sync byte, where the first `done` are known not to be.
-fn quiet_rest(bytes: &[u8], done: usize) -> usize
-    requires within { done ≤ length bytes.now }
-    requires none { NoSync bytes.now done }
+// How many of the first bytes are not the sync byte, looking at one after the other.
+fn quiet_rest(bytes: &[u8]) -> usize
     ensures within { result ≤ length bytes.now }
     ensures none { NoSync bytes.now result }
 {
-    let mut n = done;
-    while n < bytes.len() {
-        if bytes[n] == 0xE7 {
-            return n;
-        }
-        n += 1;
-    }
-    n
+    bytes.iter().position(|b| *b == 0xE7).unwrap_or(bytes.len())
 }
 
 // How many of the first bytes are not the sync byte. Where the first one is, nothing more is looked at.
@@ -73,6 +64,9 @@ pub fn quiet(bytes: &[u8]) -> usize
 {
     match bytes {
         [] | [0xE7, ..] => 0,
-        _ => quiet_rest(bytes, quiet_blocks(bytes)),
+        _ => {
+            let clear = quiet_blocks(bytes);
+            clear + quiet_rest(&bytes[clear..])
+        }
     }
 }

@@ -1,15 +1,10 @@
-use Rattle.std.proofs.Common.{◌≡◌, ◌+◌, ◌-◌, length, take, drop, refl, ap, ◌∙◌, subst, arith, length-drop}
-use Rattle.std.proofs.lemmas.List.{length-take-le}
-use Rattle.oxts_judge.specs.Models.{NoSync}
-use Rattle.oxts_judge.proofs.Quiets.{none_block}
+use Rattle.std.proofs.Common.{sym, refl, ◌∙◌}
+use Rattle.oxts_judge.proofs.Quiets.{cut}
 use Rattle.oxts_judge.proofs.hints.quiet_blocks.Goals as goal
 
-pub loop-n-preserved : goal.loop-n-preserved
-loop-n-preserved c =
-    let bs = c.args.bytes.now in
-    let n = c.loop-n.n in
-    let k = n + 16 - n in
-    let same : k ≡ 16 = omega arith in
-    let size : length (take k (drop n bs)) ≡ 16 = length-take-le k (drop n bs) (omega (arith, length-drop n bs)) ∙ same in
-    let clear : NoSync (take k (drop n bs)) 16 = subst (λ z. NoSync (take k (drop n bs)) z) size (c.if-has_sync.ensures.none refl) in
-    record { within = omega arith; none = none_block bs (take k (drop n bs)) n 16 (ap (λ z. take z (drop n bs)) same) c.loop-n.invariant.none clear }
+pub loop-block-preserved : goal.loop-block-preserved
+loop-block-preserved c =
+    let step = c.in-Some.ensures.steps in
+    let known = c.loop-block.invariant in
+    let after = cut c.args.bytes.now c.in-Some.block.now _ c.loop-block.n 16 known.within (sym known.rest ∙ step.1.0) (step.1.1 ∙ known.size) known.none (c.if-has_sync.ensures.none refl) in
+    record { rest = after.rest; size = step.0 ∙ known.size; within = after.within; none = after.none }

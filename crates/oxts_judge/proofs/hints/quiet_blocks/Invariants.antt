@@ -1,9 +1,8 @@
-use Rattle.std.proofs.Common.{◌-◌, ◌≤◌, length}
+use Rattle.std.proofs.Common.{◌≡◌, ◌≤◌, length, drop}
+use Rattle.std.specs.Slice.Iter.{chunks_exact_rest, chunks_exact_size}
 use Rattle.oxts_judge.specs.Models.{NoSync}
 use Rattle.oxts_judge.proofs.hints.quiet_blocks.Given as goal
 
-abbrev pub invariant-loop-n : goal.invariant-loop-n
-invariant-loop-n l = record { within : l.n ≤ length l.bytes; none : NoSync l.bytes l.n }
-
-abbrev pub decreases-loop-n : goal.decreases-loop-n
-decreases-loop-n l = length l.bytes - l.n
+abbrev pub invariant-loop-block : goal.invariant-loop-block
+invariant-loop-block l =
+    record { rest : chunks_exact_rest l.block-iterator ≡ drop l.n l.bytes; size : chunks_exact_size l.block-iterator ≡ 16; within : l.n ≤ length l.bytes; none : NoSync l.bytes l.n }
