@@ -1,7 +1,7 @@
 -- The packets that the manuals describe are those that are accepted. Between the two stand the checks on a packet's bytes.
 use Rattle.std.proofs.Common.{◌≡◌, ℕ, ◌+◌, ◌-◌, ◌<◌, ◌≤◌, Bool, true, false, cond, eqb, ◌⊎◌, List, length, get_or, take, drop, Some, None, Option, sym, refl, ap, ◌∙◌, inl, inr, ⊎_elim, arith}
 use Rattle.std.proofs.lemmas.List.{length-take-le, get_or-take, take-take, drop-take}
-use Rattle.std.proofs.lemmas.Bool.{both_ways, cases_eq, cond-true, eqb-true, eq-eqb}
+use Rattle.std.proofs.lemmas.Bool.{cases_eq, cond-true, eqb-true, eq-eqb}
 use Rattle.reading.specs.declared.message.Body.{Body}
 use Rattle.reading.specs.declared.message.Defect.{Defect}
 use Rattle.reading.specs.declared.message.Verdict.TheVariants.{Wait, Early, Fault, Whole}
@@ -56,7 +56,7 @@ sum_right k n p e = cond-true _ _ _ (eq-eqb _ _ e)
 
 test_right : (b : Bool) (d : Defect) → wrong (cond b None (Some d)) ≡ false → b ≡ true
 test_right true d e = refl
-test_right false d e = absurd (both_ways true e refl)
+test_right false d e = cc
 
 right_sum : (k : Cause) (n : ℕ) (p : List ℕ) → wrong (sum_defect k n p) ≡ false → get_or p n 0 ≡ sum_before n p
 right_sum k n p e = eqb-true _ _ (test_right (eqb (get_or p n 0) (sum_before n p)) _ e)
@@ -98,21 +98,15 @@ record Told (f : Format) (p : List ℕ) (b : Body) : Type 0 where
   pub third : sum_defect PacketSum (longest_of f - 1) p ≡ None
   pub body : b ≡ packet_body f structure p
 
-same_body : (a b : Body) → Whole a ≡ Whole b → b ≡ a
-same_body a b e = cc
-
 told : (f : Format) (p : List ℕ) (b : Body) → judge_of f p ≡ Whole b → Told f p b
 told f p b =
     of_every f p (λ v. v ≡ Whole b → Told f p b)
-    (λ e. let z : true ≡ false = cc in absurd (both_ways true z refl))
-    (λ d e. let z : true ≡ false = cc in absurd (both_ways true z refl))
-    (λ e. let z : true ≡ false = cc in absurd (both_ways true z refl))
-    (λ e. let z : true ≡ false = cc in absurd (both_ways true z refl))
-    (λ t long known third e. record { structure = t; long = long; known = known; third = third; body = same_body (packet_body f t p) b e })
+    (λ e. absurd (cc)) (λ d e. absurd (cc)) (λ e. absurd (cc)) (λ e. absurd (cc))
+    (λ t long known third e. record { structure = t; long = long; known = known; third = third; body = cc })
 
 sync_right : (b : Bool) (d : Defect) → decided (cond b Wait (Fault d)) ≡ false → b ≡ true
 sync_right true d e = refl
-sync_right false d e = absurd (both_ways true e refl)
+sync_right false d e = cc
 
 checked : (f : Format) (p : List ℕ) (b : Body) → Open (judge_of f) p (length p - 1) → (w : Told f p b) → Checked f w.structure p
 checked f p b o w =
@@ -153,13 +147,13 @@ whole f t p c =
 -- The checks, structure by structure, are those of the manuals.
 chosen_a : (a e : Bool) → cond a (Some StructureA) (cond e (Some StructureB) None) ≡ Some StructureA → a ≡ true
 chosen_a true e q = refl
-chosen_a false true q = let z : true ≡ false = cc in absurd (both_ways true z refl)
-chosen_a false false q = let z : true ≡ false = cc in absurd (both_ways true z refl)
+chosen_a false true q = cc
+chosen_a false false q = cc
 
 chosen_b : (a e : Bool) → cond a (Some StructureA) (cond e (Some StructureB) None) ≡ Some StructureB → e ≡ true
-chosen_b true e q = let z : e ≡ true = cc in z
+chosen_b true e q = cc
 chosen_b false true q = refl
-chosen_b false false q = let z : false ≡ true = cc in z
+chosen_b false false q = cc
 
 from_a : (f : Format) (p : List ℕ) → Checked f StructureA p → StructureAPacket f p
 from_a f p c =

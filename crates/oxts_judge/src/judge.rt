@@ -10,7 +10,7 @@ use oxts::status::{Structure, structure_of};
 use oxts::words::byte_at;
 use reading::message::{Body, Defect, Verdict};
 
-// The sum of the bytes, modulo 256.
+// The sum of the bytes, modulo 256. A fold is no plainer here, and its proof needs an answer where the loop's needs none.
 fn checksum(bytes: &[u8]) -> u8
     ensures value { result ≡ sum_of bytes.now }
 {
@@ -64,7 +64,8 @@ fn judge_status(bytes: &[u8]) -> Verdict
     }
 }
 
-// 23 and 62 bytes: a batch and the checksum behind it, in structure-A alone.
+// 23 and 62 bytes: a batch and the checksum behind it, in structure-A alone. The defect is matched, since a closure that
+// calls `body` was tried and got no proof.
 fn judge_early<B: FnOnce(&[u8]) -> Body>(bytes: &[u8], cause: Cause, body: B) -> Verdict
     requires callable { B.IsAlwaysCallable body }
     ensures value { (told : List ℕ → Body) → ((b : Body) → FnOnceReturnsAt B.FnOnce body bytes.now b → b ≡ told bytes.now)
@@ -83,12 +84,13 @@ fn judge_early<B: FnOnce(&[u8]) -> Body>(bytes: &[u8], cause: Cause, body: B) ->
 fn judge_packet(format: Format, bytes: &[u8]) -> Verdict
     ensures value { result ≡ whole_verdict format (length bytes.now - 1) (structure_in bytes.now) bytes.now }
 {
-    structure_of(byte_at(bytes, 21)).map_or(Verdict::Wait, |structure| {
-        sum_defect(bytes, Cause::PacketSum).map_or_else(
-            || Verdict::Whole(packet_body(format, structure, bytes)),
-            Verdict::Fault,
-        )
-    })
+    let Some(structure) = structure_of(byte_at(bytes, 21)) else {
+        return Verdict::Wait;
+    };
+    sum_defect(bytes, Cause::PacketSum).map_or_else(
+        || Verdict::Whole(packet_body(format, structure, bytes)),
+        Verdict::Fault,
+    )
 }
 
 // Between these lengths nothing is judged.

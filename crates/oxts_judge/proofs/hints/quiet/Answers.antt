@@ -1,6 +1,5 @@
 use Rattle.std.proofs.Common.{rules}
 use Rattle.std.proofs.lemmas.List.{take_rest}
-use Rattle.oxts_judge.specs.Models.{NoSync}
 use Rattle.oxts_judge.proofs.Quiets.{none_behind}
 use Rattle.oxts_judge.proofs.hints.quiet.Goals as goal
 
