@@ -27,7 +27,10 @@ fn sum_defect(bytes: &[u8], cause: Cause) -> Option<Defect>
 {
     let (found, front) = bytes.split_last()?;
     let found = *found;
-    let expected = checksum(front.get(1..).unwrap_or(&[]));
+    let expected = match front {
+        [_, summed @ ..] => checksum(summed),
+        [] => 0,
+    };
     (found != expected).then(|| Defect {
         cause: cause.number(),
         found,
@@ -39,11 +42,11 @@ fn sum_defect(bytes: &[u8], cause: Cause) -> Option<Defect>
 fn judge_sync(bytes: &[u8]) -> Verdict
     ensures value { result ≡ sync_verdict (slice_index bytes.now 0) }
 {
-    match byte_at(bytes, 0) {
-        0xE7 => Verdict::Wait,
-        found => Verdict::Fault(Defect {
+    match bytes {
+        [0xE7, ..] => Verdict::Wait,
+        _ => Verdict::Fault(Defect {
             cause: Cause::Sync.number(),
-            found,
+            found: byte_at(bytes, 0),
             expected: 0xE7,
         }),
     }
