@@ -33,8 +33,8 @@ fn has_sync(block: &[u8]) -> bool
     found
 }
 
-// How many of the first bytes lie in blocks of 16 without a sync byte. The library's search was tried here: it takes up to
-// twice as long where the next sync byte is near, as it is behind a fault in a packet.
+// How many of the first bytes lie in blocks of 16 without a sync byte. The library's search was tried here: it takes half
+// as long again where the next sync byte is a packet away, and up to four times as long where it is nearer.
 fn quiet_blocks(bytes: &[u8]) -> usize
     ensures within { result ≤ length bytes.now }
     ensures none { NoSync bytes.now result }
