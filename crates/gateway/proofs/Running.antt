@@ -7,6 +7,7 @@ use Rattle.reading.specs.Reading.{Model, Laws, reading}
 use Rattle.reader.specs.declared.reader.Reader.{Reader}
 use Rattle.reader.specs.Ledgers.{Handed}
 use Rattle.reader.specs.Standing.{Stands, Ran}
+use Rattle.reader.proofs.Feeding.{long}
 use Rattle.line.specs.Steps.{Joins}
 use Rattle.law.specs.Calls.{Pump, At, PortCall, Answer, refused, passed, Question, AskCounts, AskLatest, AskRecord, Shown, counted, newest, recorded, shown_of, messages_of, brought, pump_answer}
 use Rattle.law.specs.Runs.{History, start, called, questioned, pumped, accepted}
@@ -117,7 +118,7 @@ module _ {R : Type 0} (model : Model R) (laws : Laws model) where
     pub showing_reads : (g : Gateway F R G) (bs : List ℕ) → Stands model g.reader bs → (q : Question) → showing g q ≡ shown_of model bs q
     showing_reads g bs st AskCounts =
         let a = st.agrees in
-        let size : g.reader.window.held ≡ length (reading model bs).held = sym g.reader.long ∙ ap length st.held in
+        let size : g.reader.window.held ≡ length (reading model bs).held = sym (long g.reader.window) ∙ ap length st.held in
         λ i. counted record {
           pumped = st.pumped i;
           accepted = a.accepted i;
