@@ -16,6 +16,10 @@ use Rattle.reading.proofs.Steps.{stop, resumed_ends, reading_more}
 use Rattle.reader.proofs.Moves.{handed_both, moves_both, moves_still, moves_waits}
 use Rattle.reading.proofs.Opens.{held_short}
 
+-- a window holds as many bytes as it says
+pub long : (w : Window) → length (bytes w) ≡ w.held
+long w = length-take-le w.held w.buffer (omega (arith, w.full, w.few))
+
 module _ {R S : Type 0} (m : Model R) (took : S → Message → S → Type 0) where
   -- all that is left is judged
   pub moves_end : {l : Ledger R} {w : List ℕ} {n : ℕ} {s : S} {l' : Ledger R} {w' : List ℕ} {n' : ℕ} {s' : S} → length w' ≤ n' →
@@ -41,34 +45,32 @@ module _ {R S : Type 0} (m : Model R) (took : S → Message → S → Type 0) wh
       (moves : Moves m took l all (next - 1) s l₁ (drop (length all - left) all) left s')
       (cut : bytes w₂ ≡ drop (w₁.held - left) (bytes w₁)) (size : w₂.held ≡ left) (kept : w₂.held < 264 → (w₃ ≡ w₂) × (l₃ ≡ l₁)) where
     is_rest : drop (length all - left) all ≡ bytes w₂
-    is_rest =
-        let long : length (bytes w₁) ≡ w₁.held = length-take-le w₁.held w₁.buffer (omega (arith, w₁.full, w₁.few)) in
-        rw (is_all, long) (sym cut)
+    is_rest = rw (is_all, long w₁) (sym cut)
 
     from_held : Moves m took l (held ++ xs) (length held) s l₁ (bytes w₂) left s'
     from_held =
         let front = take_at held xs (length held) refl in
-        let long = length-append held xs in
+        let sum = length-append held xs in
         moves_both m took (moves_waits m took (length held) next above (omega arith) (rw front waits))
         (subst (λ z. Moves m took l z (next - 1) s l₁ (bytes w₂) left s') (is_all ∙ joined) (rw is_rest at moves))
 
     pub taken : (bs : List ℕ) → held ≡ (reading m bs).held → Agrees l (reading m bs).tally →
         (bytes w₃ ≡ (reading m (bs ++ xs)).held) × Agrees l₃ (reading m (bs ++ xs)).tally × News m bs (bs ++ xs) took s s'
     taken bs holds agrees =
-        let long : length (bytes w₂) ≡ left = ap length (sym is_rest) ∙ simp length-drop (omega arith) in
+        let rest_long : length (bytes w₂) ≡ left = ap length (sym is_rest) ∙ simp length-drop (omega arith) in
         let end : length (bytes w₂) ≤ left = omega arith in
         let done = read_on bs xs agrees holds end from_held in
         let same = kept (omega (arith, ap length done.0, held_short m laws (bs ++ xs), laws.at_most)) in
         (ap bytes same.0 ∙ done.0, rw same.1 done.1, done.2)
 
 module _ {F R S : Type 0} {G : Ghosts F R} (m : Model R) (took : S → Message → S → Type 0) where
-  pub ran_none : {r : Reader F R G} {s : S} → Ran m took r s [] r s
-  ran_none bs st =
+  pub ran_none : (r : Reader F R G) (s : S) → Ran m took r s [] r s
+  ran_none r s bs st =
       let e = append-nil bs in
       (rw e st, record { messages = []; beyond = rw e (sym (append-nil (reading m bs).tally.messages)); handed = refl })
 
-  pub ran_both : {r r₁ r₂ : Reader F R G} {s s₁ s₂ : S} {xs ys : List ℕ} → Ran m took r s xs r₁ s₁ → Ran m took r₁ s₁ ys r₂ s₂ → Ran m took r s (xs ++ ys) r₂ s₂
-  ran_both {r₂ = r₂} {s = s} {s₁ = s₁} {s₂ = s₂} {xs = xs} {ys = ys} f g bs st =
+  pub ran_both : (r : Reader F R G) (s : S) (xs : List ℕ) (r₁ : Reader F R G) (s₁ : S) (ys : List ℕ) (r₂ : Reader F R G) (s₂ : S) → Ran m took r s xs r₁ s₁ → Ran m took r₁ s₁ ys r₂ s₂ → Ran m took r s (xs ++ ys) r₂ s₂
+  ran_both r s xs r₁ s₁ ys r₂ s₂ f g bs st =
       let x = f bs st in
       let y = g (bs ++ xs) x.0 in
       let e = append_assoc bs xs ys in (

@@ -10,7 +10,7 @@ loop-block-init g c =
       is_finite = tt;
       size = search rules;
       pumped = search rules;
-      ran = ([], search rules, ran_none g.F.Family.model g.S.Sink.took);
+      ran = ([], search rules, ran_none g.F.Family.model g.S.Sink.took _ _);
     }
 
 pub loop-block-preserved : goal.loop-block-preserved
@@ -28,6 +28,6 @@ loop-block-preserved g c =
       ran = (
         xs ++ block,
         append_assoc xs block left ∙ ap (λ z. xs ++ z) (sym steps.1.0) ∙ before.ran.1,
-        ran_both g.F.Family.model g.S.Sink.took before.ran.2 c.take_in.ensures.ran,
+        ran_both g.F.Family.model g.S.Sink.took _ _ _ _ _ _ _ _ before.ran.2 c.take_in.ensures.ran,
       );
     }
