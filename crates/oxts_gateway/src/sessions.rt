@@ -4,13 +4,13 @@ ghost use Rattle.ports.specs.Answers.{take_answer};
 ghost use Rattle.gateway.specs.Passing.{passed_by};
 ghost use Rattle.oxts_gateway.specs.Sessions.{FirstTake, Relayed, second_grant};
 
-use crate::make::ncom_gateway;
+use crate::make::oxts_gateway;
 use gateway::gateway::Gateway;
 use gateway::refusal::PumpRefusal;
 use line::line::Line;
 use line::meter::Meter;
 use line::plain::Plain;
-use oxts_record::family::Ncom;
+use oxts_record::family::{Ncom, NcomFormat};
 use ports::refusal::TakeRefusal;
 use reading::family::Family;
 use reading::message::Message;
@@ -19,7 +19,7 @@ use reading::message::Message;
 pub fn first_message(bytes: &[u8]) -> Result<Message, TakeRefusal>
     ensures law { FirstTake ⟦<Ncom as Family>⟧ bytes.now (take_answer result) }
 {
-    let mut gateway = ncom_gateway();
+    let mut gateway = oxts_gateway::<NcomFormat>();
     let _ = gateway.open(0, 31);
     let mut line = Plain::new(bytes, 7);
     let _ = gateway.pump(&mut line, 64);
@@ -42,7 +42,7 @@ pub fn relay<F: Family, L: Line>(
 pub fn granted_twice(bytes: &[u8]) -> Result<u32, PumpRefusal>
     ensures passed { passed_by result ≡ second_grant bytes.now }
 {
-    let mut gateway = ncom_gateway();
+    let mut gateway = oxts_gateway::<NcomFormat>();
     let mut line = Meter::new(Plain::new(bytes, 2));
     let _ = line.grant(5);
     let _ = gateway.pump(&mut line, 100);

@@ -1,10 +1,10 @@
 // Gateways at work: start orders and cuts that a port cannot see, and the memory that a gateway takes.
-use crate::make::{mcom_gateway, ncom_gateway};
+use crate::make::oxts_gateway;
 use gateway::gateway::Gateway;
 use gateway::refusal::PumpRefusal;
 use line::line::Line;
 use line::plain::Plain;
-use oxts_record::family::{Mcom, Ncom};
+use oxts_record::family::{Mcom, McomFormat, Ncom, NcomFormat};
 use std::mem::size_of;
 use std::test::Fail;
 
@@ -24,9 +24,9 @@ fn pump_packet(gateway: &mut Gateway<Ncom>, limit: u32) -> Result<(), PumpRefusa
 // Port 3 is opened for statuses before the first packet, and gives and misses the same, whoever else is there and however packets are cut.
 #[test]
 fn a_port_sees_no_neighbour_and_no_cut(rt: HostRuntime) -> Result<(), Fail> {
-    let mut alone = ncom_gateway();
+    let mut alone = oxts_gateway::<NcomFormat>();
     alone.open(3, 4)?;
-    let mut busy = ncom_gateway();
+    let mut busy = oxts_gateway::<NcomFormat>();
     busy.open(7, 31)?;
     busy.open(3, 4)?;
     busy.open(0, 1)?;
@@ -50,7 +50,7 @@ fn a_port_sees_no_neighbour_and_no_cut(rt: HostRuntime) -> Result<(), Fail> {
 // A gateway that nothing was pumped into, for MCOM.
 #[test]
 fn a_new_gateway_has_nothing(rt: HostRuntime) {
-    let gateway = mcom_gateway();
+    let gateway = oxts_gateway::<McomFormat>();
     assert_eq!(rt; gateway.counts().pumped, 0);
     assert!(rt; gateway.latest().is_none());
     assert_eq!(rt; gateway.record().heard_count(), 0);

@@ -16,7 +16,7 @@ bytes_of (p ∷ ps) = p.bytes ∷ bytes_of ps
 abbrev pub Described : Format → Packet → Type 0
 Described f p = StructureAPacket f p.bytes ⊎ StructureBPacket f p.bytes
 
-pub record ReadsFormat {F : Type 0} (f : Format) (m : Model (Record F)) : Type 0 where
+pub record ReadsFormat {M : Type 0} (f : Format) (m : Model (Record M)) : Type 0 where
   pub packets : (bs : List ℕ) → Each (Described f) (reading m bs).tally.packets
   -- the record is what they make
   pub made : (bs : List ℕ) → (reading m bs).tally.made.navigation ≡ after_all f (bytes_of (reading m bs).tally.packets)

@@ -1,6 +1,7 @@
 // The packet families NCOM and MCOM: the verdicts and hints of a format, and a record of their own.
+ghost use Rattle.std.specs.Prelude.{refl};
 ghost use Rattle.oxts.specs.declared.format.Format.TheVariants.{Ncom as ncom-format, Mcom as mcom-format};
-ghost use Rattle.oxts_record.specs.Families.{ncom_model, mcom_model, ncom_laws, mcom_laws};
+ghost use Rattle.oxts_record.specs.Families.{family_model, family_laws};
 
 use crate::record::{Marker, Record};
 use oxts::format::Format;
@@ -8,93 +9,75 @@ use oxts_judge::hints;
 use oxts_judge::judge::judge;
 use reading::family::Family;
 use reading::message::Verdict;
+use std::marker::PhantomData;
 
 #[derive(Clone, Copy)]
-pub struct Ncom;
+pub struct NcomFormat;
 
 #[derive(Clone, Copy)]
-pub struct Mcom;
+pub struct McomFormat;
 
-impl Marker for Ncom {
-    ghost format = { ncom-format };
+impl Marker for NcomFormat {
+    ghost FORMAT = { ncom-format };
 
-    fn format() -> Format {
-        Format::Ncom
-    }
-}
+    ghost LONGEST = { 72 };
 
-impl Marker for Mcom {
-    ghost format = { mcom-format };
+    const FORMAT: Format = Format::Ncom;
 
-    fn format() -> Format {
-        Format::Mcom
-    }
-}
-
-impl Family for Ncom {
     const LONGEST: usize = 72;
 
-    type Record = Record<Ncom>;
-
-    ghost model = { ncom_model };
-
-    ghost laws = { ncom_laws };
-
-    fn longest_packet() -> usize {
-        Self::LONGEST
-    }
-
-    fn judge(bytes: &[u8]) -> Verdict {
-        judge(Format::Ncom, bytes)
-    }
-
-    fn next_check(prefix: &[u8]) -> usize {
-        hints::next_check(Format::Ncom, prefix)
-    }
-
-    fn quiet(bytes: &[u8]) -> usize {
-        hints::quiet(bytes)
-    }
-
-    fn first() -> Record<Ncom> {
-        Record::new(Ncom)
-    }
-
-    fn absorb(record: &mut Record<Ncom>, packet: &[u8]) {
-        record.absorb(Format::Ncom, packet);
-    }
+    ghost longest = { refl };
 }
 
-impl Family for Mcom {
+impl Marker for McomFormat {
+    ghost FORMAT = { mcom-format };
+
+    ghost LONGEST = { 84 };
+
+    const FORMAT: Format = Format::Mcom;
+
     const LONGEST: usize = 84;
 
-    type Record = Record<Mcom>;
+    ghost longest = { refl };
+}
 
-    ghost model = { mcom_model };
+// The family of a format.
+pub struct Oxts<M>(PhantomData<M>);
 
-    ghost laws = { mcom_laws };
+pub type Ncom = Oxts<NcomFormat>;
+
+pub type Mcom = Oxts<McomFormat>;
+
+impl<M: Marker> Family for Oxts<M> {
+    const LONGEST: usize = M::LONGEST;
+
+    type Record = Record<M>;
+
+    ghost model = { family_model M.FORMAT };
+
+    ghost laws = { family_laws M.FORMAT };
 
     fn longest_packet() -> usize {
-        Self::LONGEST
+        M::LONGEST
     }
 
     fn judge(bytes: &[u8]) -> Verdict {
-        judge(Format::Mcom, bytes)
+        judge(M::FORMAT, bytes)
     }
 
     fn next_check(prefix: &[u8]) -> usize {
-        hints::next_check(Format::Mcom, prefix)
+        hints::next_check(M::FORMAT, prefix)
     }
 
     fn quiet(bytes: &[u8]) -> usize {
         hints::quiet(bytes)
     }
 
-    fn first() -> Record<Mcom> {
-        Record::new(Mcom)
+    fn first() -> Record<M> {
+        Record::new()
     }
 
-    fn absorb(record: &mut Record<Mcom>, packet: &[u8]) {
-        record.absorb(Format::Mcom, packet);
+    fn absorb(record: &mut Record<M>, packet: &[u8]) {
+        record.absorb(packet);
     }
 }

@@ -1,5 +1,6 @@
 // The record of a packet family: a navigation, with a mark of the family that it belongs to.
-ghost use Rattle.std.specs.Prelude.{◌≡◌};
+ghost use Rattle.std.specs.Prelude.{◌≡◌, ℕ};
+ghost use Rattle.oxts.specs.Formats.{longest_of};
 ghost use Rattle.oxts_record.specs.ChannelSets.{members};
 ghost use Rattle.oxts.specs.declared.format.Format.{Format};
 ghost use Rattle.oxts_record.specs.Navigations.{channel_of};
@@ -10,35 +11,36 @@ use crate::navigation::Navigation;
 use crate::snapshot::Snapshot;
 use oxts::format::Format;
 use oxts_fields::refusal::Refusal;
+use std::marker::PhantomData;
 
 // What marks the record of a family: it stands for the family's format.
 pub trait Marker {
-    ghost format: { Format };
+    ghost FORMAT: { Format };
 
-    fn format() -> Format
-        ensures value { result ≡ format };
+    ghost LONGEST: { ℕ };
+
+    const FORMAT: Format;
+
+    // The length of the format's longest packet.
+    const LONGEST: usize;
+
+    ghost longest: { LONGEST ≡ longest_of FORMAT };
 }
 
-#[derive(Clone, Copy)]
-pub struct Record<F> {
-    family: F,
+#[derive_where(Clone, Copy)]
+pub struct Record<M> {
+    of: PhantomData<M>,
     navigation: Navigation,
 }
 
-impl<F> Record<F> {
-    pub(crate) fn new(family: F) -> Record<F>
-        ensures value { result ≡ first_record family }
+impl<M> Record<M> {
+    pub(crate) fn new() -> Record<M>
+        ensures value { result ≡ first_record }
     {
         Record {
-            family,
+            of: PhantomData,
             navigation: Navigation::new(),
         }
-    }
-
-    pub(crate) fn absorb(&mut self, format: Format, packet: &[u8])
-        ensures after { self.new ≡ record_after format self.old packet.now }
-    {
-        self.navigation.absorb(format, packet);
     }
 
     pub fn snapshot(&self) -> Snapshot
@@ -60,12 +62,18 @@ impl<F> Record<F> {
     }
 }
 
-impl<F: Marker> Record<F> {
+impl<M: Marker> Record<M> {
+    pub(crate) fn absorb(&mut self, packet: &[u8])
+        ensures after { self.new ≡ record_after M.FORMAT self.old packet.now }
+    {
+        self.navigation.absorb(M::FORMAT, packet);
+    }
+
     // The value of a field of a status channel; refused with the lowest number that applies.
     pub fn field(&self, channel: u32, number: u32) -> Result<i64, Refusal>
-        ensures value { result ≡ field_of F.Marker.format self.now.navigation channel number }
+        ensures value { result ≡ field_of M.FORMAT self.now.navigation channel number }
     {
-        self.navigation.field(F::format(), channel, number)
+        self.navigation.field(M::FORMAT, channel, number)
     }
 
     // Milliseconds since GPS time began: the minutes of channel 0, and the latest time.

@@ -1,6 +1,7 @@
 use Rattle.std.proofs.Common.{◌≡◌, ℕ, List, subst, arith}
 use Rattle.reading.specs.declared.family.Family.{Ghosts}
-use Rattle.oxts_record.specs.declared.family.Ncom.{Ncom}
+use Rattle.oxts_record.specs.declared.family.NcomFormat.{NcomFormat}
+use Rattle.oxts_record.specs.declared.family.Oxts.{Oxts}
 use Rattle.oxts_record.specs.Families.{ncom_model}
 use Rattle.law.specs.Calls.{Answer, Pump, At, Open, done}
 use Rattle.law.specs.Runs.{start, called}
@@ -9,13 +10,13 @@ use Rattle.gateway.specs.Standing.{Represents}
 use Rattle.oxts_gateway.specs.Sessions.{FirstTake}
 use Rattle.oxts_gateway.proofs.sessions.first_message.Goals as goal
 
-along : {R : Type 0} {G : Ghosts Ncom R} (a : Answer) (bs bs' : List ℕ) → bs ≡ bs' → FirstTake G bs a → FirstTake G bs' a
+along : {R : Type 0} {G : Ghosts (Oxts NcomFormat) R} (a : Answer) (bs bs' : List ℕ) → bs ≡ bs' → FirstTake G bs a → FirstTake G bs' a
 along {G = G} a bs bs' e law = subst (λ x. FirstTake G x a) e law
 
 pub returns : goal.returns
 returns c =
-    let law = c.ncom_gateway-gateway.ensures.law in
-    let rep₀ = c.ncom_gateway-gateway.ensures.start in
+    let law = c.oxts_gateway-gateway.ensures.law in
+    let rep₀ = c.oxts_gateway-gateway.ensures.start in
     let rep₁ = c.«open».ensures.run start rep₀ in
     let opened = ((law start (_, rep₀)).port 0 (omega arith)).open_answers 31 _ (_, rep₁) in
     let h₁ = called start (At 0 (Open 31)) done in

@@ -24,8 +24,8 @@ left bs n e = let few = length-take 5 bs in simp (length-take, length-drop) (ome
 
 pub returns : goal.returns
 returns c =
-    let law = c.ncom_gateway-gateway.ensures.law in
-    let rep₀ = c.ncom_gateway-gateway.ensures.start in
+    let law = c.oxts_gateway-gateway.ensures.law in
+    let rep₀ = c.oxts_gateway-gateway.ensures.start in
     let bytes : List ℕ = c.args.bytes.now in
     let m₁ = c.grant.new.self in
     let m₂ = c.grant-2.new.self in
