@@ -23,10 +23,7 @@ pub struct Navigation {
 fn is_structure_a(status: u8) -> bool
     ensures value { result ≡ is_structure_a status }
 {
-    match structure_of(status) {
-        Some(Structure::StructureA) => true,
-        Some(Structure::StructureB) | None => false,
-    }
+    matches!(structure_of(status), Some(Structure::StructureA))
 }
 
 // The eight bytes behind a place.
@@ -116,29 +113,24 @@ impl Navigation {
     pub fn channel(&self, channel: u8) -> Option<[u8; 8]>
         ensures value { result ≡ channel_of self.now channel }
     {
-        if self.heard.contains(channel) {
-            Some(self.channels[channel as usize])
-        } else {
-            None
-        }
+        self.heard
+            .contains(channel)
+            .then_some(self.channels[channel as usize])
     }
 
     pub fn field(&self, format: Format, channel: u32, number: u32) -> Result<i64, Refusal>
         ensures value { result ≡ field_of format self.now channel number }
     {
-        let heard = match u8::try_from(channel) {
-            Ok(channel) => self.channel(channel),
-            Err(_) => None,
-        };
+        let heard = u8::try_from(channel)
+            .ok()
+            .and_then(|channel| self.channel(channel));
         ask::field(format, channel, number, heard)
     }
 
     pub fn full_time(&self) -> Result<u64, Refusal>
         ensures value { result ≡ full_time_of self.now }
     {
-        match self.channel(0) {
-            Some(bytes) => time_from(minutes_in(bytes), self.latest.status, self.latest.time),
-            None => Err(Refusal::NotHeard),
-        }
+        let bytes = self.channel(0).ok_or(Refusal::NotHeard)?;
+        time_from(minutes_in(bytes), self.latest.status, self.latest.time)
     }
 }

@@ -5,7 +5,7 @@ ghost use Rattle.oxts_record.specs.Snapshots.{first_snapshot, nothing_valid, ine
 use oxts::batches::{Solution, Vector, inertial_in, solution_in};
 use std::fmt;
 
-// A quantity that is no longer valid stays as it was.
+// A quantity that is no longer valid stays as it was, which an `Option` would lose.
 #[derive(Clone, Copy)]
 pub struct Snapshot {
     pub status: u8,
@@ -95,19 +95,24 @@ fn validity(valid: bool) -> &'static str {
 
 impl fmt::Display for Snapshot {
     fn fmt<W: fmt::Write>(&self, f: &mut fmt::Formatter<W>) -> fmt::Result {
-        let status = self.status;
-        let inertial = validity(self.inertial_valid);
-        let solution = validity(self.solution_valid);
-        let accelerations = self.accelerations;
-        let rates = self.rates;
-        let quantities = self.solution;
-        match self.time {
+        let Snapshot {
+            status,
+            time,
+            inertial_valid,
+            solution_valid,
+            accelerations,
+            rates,
+            solution,
+        } = *self;
+        match time {
             Some(time) => write!(f, "status {status} time {time}")?,
             None => write!(f, "status {status} time absent")?,
         }
         write!(
             f,
-            " inertial {inertial} solution {solution} accelerations {accelerations} rates {rates} {quantities}"
+            " inertial {} solution {} accelerations {accelerations} rates {rates} {solution}",
+            validity(inertial_valid),
+            validity(solution_valid),
         )
     }
 }
