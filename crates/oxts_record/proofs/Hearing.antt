@@ -1,7 +1,8 @@
 -- Packets bring channels one by one.
 use Rattle.std.proofs.Common.{◌≡◌, ℕ, zero, suc, ◌+◌, ◌/◌, ◌%◌, ◌^◌, ◌<◌, Bool, true, false, cond, not, ◌&&◌, ◌||◌, eqb, List, [], ◌∷◌, length, get_or, set, Some, None, count_by, Option, sym, refl, ap, ◌∙◌, ⊎_elim, arith, length-set}
-use native.Mathlib.Nat.{zero-div}
+use Rattle.std.specs.Int.{bit_at}
 use Rattle.std.specs.List.{range_with_len}
+use Rattle.std.proofs.lemmas.Nat.Bits.{bit_at-zero}
 use Rattle.std.proofs.lemmas.List.{get_or-set_same, get_or-set_other}
 use Rattle.std.proofs.lemmas.List.Sums.{sum_by-cons}
 use Rattle.std.proofs.lemmas.Bool.{cases_eq, eq-eqb, ne_eqb}
@@ -10,7 +11,7 @@ use Rattle.oxts.specs.Formats.{channel_place}
 use Rattle.oxts.specs.Status.{is_structure_a}
 use Rattle.oxts_record.specs.declared.navigation.Navigation.{Navigation}
 use Rattle.oxts_record.specs.declared.snapshot.Snapshot.{Snapshot}
-use Rattle.oxts_record.specs.ChannelSets.{bit, has, no_channels, members}
+use Rattle.oxts_record.specs.ChannelSets.{has, no_channels, members}
 use Rattle.oxts_record.specs.Navigations.{status_in, channel_in, batch_at, channel_taken, with_latest, zero_channels, first_navigation, navigation_after, channel_of}
 use Rattle.oxts_record.specs.Snapshots.{snapshot_after}
 use Rattle.oxts_record.specs.Heard.{brings, brought, latest_batch, navigation_of, after_all, Heard}
@@ -32,8 +33,7 @@ zeros (suc (suc (suc zero))) = refl
 zeros (suc (suc (suc (suc i)))) = refl
 
 has_none : (c : ℕ) → has no_channels c ≡ false
-has_none c =
-    ap (λ w. eqb (bit w (c % 64)) 1) (zeros (c / 64)) ∙ ap (λ x. eqb (x % 2) 1) (zero-div (2 ^ (c % 64)))
+has_none c = ap (λ w. eqb (bit_at w (c % 64)) 1) (zeros (c / 64)) ∙ ap (λ x. eqb x 1) (bit_at-zero (c % 64))
 
 record Shaped (n : Navigation) : Type 0 where
   pub words : length n.heard.words ≡ 4

@@ -1,14 +1,12 @@
 -- The set of channels that four words of 64 bits stand for.
 use Rattle.std.specs.Prelude.{ℕ, ◌/◌, ◌%◌, ◌^◌, Bool, List, [], ◌∷◌, count_by, ◌==◌, bit_or, slice_index, slice_set}
+use Rattle.std.specs.Int.{bit_at}
 use Rattle.std.specs.List.{range_with_len}
 use Rattle.oxts_record.specs.declared.channel_set.ChannelSet.{ChannelSet}
 
-abbrev pub bit : ℕ → ℕ → ℕ
-bit n k = n / 2 ^ k % 2
-
 -- channel c is bit c % 64 of word c / 64
 abbrev pub has_in : List ℕ → ℕ → Bool
-has_in ws c = bit (slice_index ws (c / 64)) (c % 64) == 1
+has_in ws c = bit_at (slice_index ws (c / 64)) (c % 64) == 1
 
 abbrev pub has : ChannelSet → ℕ → Bool
 has s c = has_in s.words c
