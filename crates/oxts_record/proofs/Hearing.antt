@@ -1,10 +1,11 @@
 -- Packets bring channels one by one.
-use Rattle.std.proofs.Common.{◌≡◌, ℕ, zero, suc, ◌+◌, ◌/◌, ◌%◌, ◌^◌, ◌<◌, Bool, true, false, cond, not, ◌&&◌, ◌||◌, eqb, List, [], ◌∷◌, length, get_or, set, Some, None, count_by, Option, sym, refl, ap, ◌∙◌, ⊎_elim, arith, length-set}
+use Rattle.std.proofs.Common.{◌≡◌, ℕ, zero, suc, ◌+◌, ◌/◌, ◌%◌, ◌<◌, Bool, true, false, cond, not, ◌&&◌, ◌||◌, eqb, List, [], ◌∷◌, length, get_or, set, Some, None, count_by, Option, sym, refl, ap, ◌∙◌, ⊎_elim, arith, length-set}
 use Rattle.std.specs.Int.{bit_at}
 use Rattle.std.specs.List.{range_with_len}
 use Rattle.std.proofs.lemmas.Nat.Bits.{bit_at-zero}
 use Rattle.std.proofs.lemmas.List.{get_or-set_same, get_or-set_other}
 use Rattle.std.proofs.lemmas.List.Sums.{sum_by-cons}
+use Rattle.std.proofs.Math.Bool.{or_assoc, or_comm, or-false}
 use Rattle.std.proofs.lemmas.Bool.{cases_eq, eq-eqb, ne_eqb}
 use Rattle.oxts.specs.declared.format.Format.{Format}
 use Rattle.oxts.specs.Formats.{channel_place}
@@ -68,15 +69,8 @@ bytes_at h cs c = cond h (Some (get_or cs c [])) None
 bytes_taken : (h : Bool) (cs : List (List ℕ)) (b : List ℕ) (c d : ℕ) → c < length cs → bytes_at (eqb c d || h) (set cs d b) c ≡ cond (eqb c d) (Some b) (bytes_at h cs c)
 bytes_taken h cs b c d hc =
     ⊎_elim
-    (λ (e : c ≡ d).
-    let yes : eqb c d ≡ true = eq-eqb c d e in
-    let inside : d < length cs = omega arith in
-    let here : get_or (set cs d b) c [] ≡ b = ap (λ i. get_or (set cs d b) i []) e ∙ get_or-set_same cs d b [] inside in
-    ap (λ t. bytes_at (t || h) (set cs d b) c) yes ∙ ap Some here ∙ sym (ap (λ t. cond t (Some b) (bytes_at h cs c)) yes))
-    (λ (e : c ≡ d → ⊥).
-    let no_test : eqb c d ≡ false = ne_eqb c d e in
-    ap (λ t. bytes_at (t || h) (set cs d b) c) no_test ∙ ap (λ x. cond h (Some x) None) (get_or-set_other cs d c b [] e)
-    ∙ sym (ap (λ t. cond t (Some b) (bytes_at h cs c)) no_test))
+    (λ (e : c ≡ d). let here = get_or-set_same cs d b [] (omega arith) in rw (eq-eqb c d e, e, here))
+    (λ (e : c ≡ d → ⊥). rw (ne_eqb c d e, get_or-set_other cs d c b [] e))
     (cases_eq c d)
 
 channel_chosen : (f : Format) (n : Navigation) (p : List ℕ) (s : Snapshot) (c : ℕ) → Shaped n → c < 256 → (a z : Bool) → channel_of (chosen f n p s a z) c ≡ cond (takes f p c a z) (Some (batch_at p (channel_place f))) (channel_of n c)
@@ -91,21 +85,12 @@ shaped_after : (f : Format) (n : Navigation) (p : List ℕ) → Shaped n → Sha
 shaped_after f n p sh =
     shaped_chosen f n p (snapshot_after (status_in p) n.latest p) sh (is_structure_a (status_in p)) (eqb (status_in p) 0)
 
-or_nothing : (a : Bool) → a ≡ (a || false)
-or_nothing true = refl
-or_nothing false = refl
-
-or_swap : (a b c : Bool) → ((a || b) || c) ≡ (b || (a || c))
-or_swap true true c = refl
-or_swap true false c = refl
-or_swap false b c = refl
-
 has_of : (f : Format) (ps : List (List ℕ)) (n : Navigation) (c : ℕ) → Shaped n → c < 256 → has (navigation_of f n ps).heard c ≡ (has n.heard c || brought f ps c)
-has_of f [] n c sh hc = or_nothing (has n.heard c)
+has_of f [] n c sh hc = sym (or-false (has n.heard c))
 has_of f (p ∷ ps) n c sh hc =
     has_of f ps (navigation_after f n p) c (shaped_after f n p sh) hc
     ∙ ap (λ b. b || brought f ps c) (has_chosen f n p (snapshot_after (status_in p) n.latest p) c sh hc (is_structure_a (status_in p)) (eqb (status_in p) 0))
-    ∙ or_swap (brings f p c) (has n.heard c) (brought f ps c)
+    ∙ ap (λ b. b || brought f ps c) (or_comm (brings f p c) (has n.heard c)) ∙ or_assoc (has n.heard c) (brings f p c) (brought f ps c)
 
 channel_of_all : (f : Format) (ps : List (List ℕ)) (n : Navigation) (c : ℕ) → Shaped n → c < 256 → channel_of (navigation_of f n ps) c ≡ latest_batch f (channel_of n c) ps c
 channel_of_all f [] n c sh hc = refl

@@ -1,5 +1,5 @@
 -- Single bits of numbers, and how many of them are ones. Assumes nothing.
-use Rattle.std.proofs.Common.{◌≡◌, ℕ, zero, suc, ◌+◌, ◌*◌, ◌/◌, ◌%◌, ◌^◌, ◌<◌, Bool, cond, ◌||◌, eqb, List, ◌++◌, length, get_or, set, max, sum_by, count_by, sym, refl, ap, ◌∙◌, ⊎_elim, add-zero, add-one, arith}
+use Rattle.std.proofs.Common.{◌≡◌, ℕ, zero, suc, ◌+◌, ◌*◌, ◌/◌, ◌%◌, ◌^◌, ◌<◌, Bool, cond, ◌||◌, eqb, List, ◌++◌, length, get_or, set, sum_by, count_by, sym, refl, ap, ◌∙◌, ⊎_elim, add-zero, add-one, arith}
 use lib.Bits.{bit_or}
 use lib.Count.{ones, ones_step, ones-le}
 use Rattle.std.specs.Int.{bit_at}
@@ -28,10 +28,7 @@ ones_count (suc d) a n p reads h =
 block : (ws : List ℕ) (i a : ℕ) → a ≡ 64 * i → get_or ws i 0 < 2 ^ 64 → count_by (has_in ws) (range_with_len a 64) ≡ ones (get_or ws i 0)
 block ws i a e h =
     ones_count 64 a (get_or ws i 0) (has_in ws)
-    (λ k kd.
-    let q : (a + k) / 64 ≡ i = omega arith in
-    let r : (a + k) % 64 ≡ k = omega arith in
-    rw (q, r) refl) h
+    (λ k kd. let q : (a + k) / 64 ≡ i = omega arith in let r : (a + k) % 64 ≡ k = omega arith in rw (q, r)) h
 
 four_parts : (f : ℕ → ℕ) (p q r s : List ℕ) (a b c d : ℕ) → sum_by f p ≡ a → sum_by f q ≡ b → sum_by f r ≡ c → sum_by f s ≡ d → sum_by f (p ++ (q ++ (r ++ s))) ≡ a + b + c + d
 four_parts f p q r s a b c d ha hb hc hd =
@@ -59,14 +56,11 @@ has_inserted ws c k four hk =
     ⊎_elim
     (λ (f : k % 64 ≡ c % 64).
     let one : bit_at (2 ^ (c % 64)) (k % 64) ≡ 1 = rw f (bit_at-pow_same (c % 64)) in
-    let same : k ≡ c = omega arith in
     rw (e, here, both) (grind (arith, nat_tests)))
     (λ (f : k % 64 ≡ c % 64 → ⊥).
     let none = bit_at-pow_other (c % 64) (k % 64) f in
-    let differ : k ≡ c → ⊥ = λ x. f (ap (λ y. y % 64) x) in
     rw (e, here, both) (grind (arith, nat_tests)))
     (cases_eq (k % 64) (c % 64)))
     (λ (e : k / 64 ≡ c / 64 → ⊥).
-    let differ : k ≡ c → ⊥ = λ x. e (ap (λ y. y / 64) x) in
     rw (get_or-set_other ws (c / 64) (k / 64) v 0 e) (grind (arith, nat_tests)))
     (cases_eq (k / 64) (c / 64))
