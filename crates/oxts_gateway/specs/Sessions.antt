@@ -2,8 +2,6 @@
 use Rattle.std.specs.Prelude.{ℕ, min, List, length, drop}
 use Rattle.reading.specs.declared.family.Family.{Ghosts}
 use Rattle.reading.specs.Reading.{Model}
-use Rattle.oxts_record.specs.declared.family.NcomFormat.{NcomFormat}
-use Rattle.oxts_record.specs.declared.family.Oxts.{Oxts}
 use Rattle.law.specs.Calls.{Answer, done, passed, Pump, At, Open, Take, pump_answer}
 use Rattle.law.specs.Runs.{History, start, called, pumped}
 use Rattle.gateway.specs.declared.gateway.Gateway.{Gateway}
@@ -11,9 +9,9 @@ use Rattle.gateway.specs.Law.{RunLaw}
 use Rattle.gateway.specs.Standing.{Represents}
 
 -- The law holds of the run that opens port 0 for all kinds, pumps 64 bytes and takes, with this answer.
-abbrev pub FirstTake : {R : Type 0} → Ghosts (Oxts NcomFormat) R → List ℕ → Answer → Type 0
-FirstTake G bytes a =
-    RunLaw (Oxts NcomFormat) G G.model (called (called (called start (At 0 (Open 31)) done) (Pump 64 bytes) (passed (min 64 (length bytes)) (drop (min 64 (length bytes)) bytes))) (At 0 Take) a)
+abbrev pub FirstTake : {F R : Type 0} → Ghosts F R → List ℕ → Answer → Type 0
+FirstTake {F} G bytes a =
+    RunLaw F G G.model (called (called (called start (At 0 (Open 31)) done) (Pump 64 bytes) (passed (min 64 (length bytes)) (drop (min 64 (length bytes)) bytes))) (At 0 Take) a)
 
 -- A pump and a take go on with any run.
 abbrev pub Relayed : {F R : Type 0} {G : Ghosts F R} → Model R → Gateway F R G → List ℕ → ℕ → Answer → Gateway F R G → Type 0
