@@ -20,9 +20,9 @@ pub struct McomFormat;
 impl Marker for NcomFormat {
     ghost FORMAT = { ncom-format };
 
-    ghost LONGEST = { 72 };
-
     const FORMAT: Format = Format::Ncom;
+
+    ghost LONGEST = { 72 };
 
     const LONGEST: usize = 72;
 
@@ -32,9 +32,9 @@ impl Marker for NcomFormat {
 impl Marker for McomFormat {
     ghost FORMAT = { mcom-format };
 
-    ghost LONGEST = { 84 };
-
     const FORMAT: Format = Format::Mcom;
+
+    ghost LONGEST = { 84 };
 
     const LONGEST: usize = 84;
 

@@ -13,6 +13,7 @@ use oxts::words::byte_at;
 use oxts_fields::ask;
 use oxts_fields::refusal::Refusal;
 
+// Bytes and marks of all channels are here, whatever was heard: a gateway takes the same memory throughout.
 #[derive(Clone, Copy)]
 pub struct Navigation {
     latest: Snapshot,

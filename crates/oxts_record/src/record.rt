@@ -13,20 +13,21 @@ use oxts::format::Format;
 use oxts_fields::refusal::Refusal;
 use std::marker::PhantomData;
 
-// What marks the record of a family: it stands for the family's format.
+// What marks a family and its record: it stands for the family's format.
 pub trait Marker {
     ghost FORMAT: { Format };
 
-    ghost LONGEST: { ℕ };
-
     const FORMAT: Format;
 
-    // The length of the format's longest packet.
+    ghost LONGEST: { ℕ };
+
+    // The length of the format's packets.
     const LONGEST: usize;
 
     ghost longest: { LONGEST ≡ longest_of FORMAT };
 }
 
+// What it answers of the navigation is proved there once, for any format: passing on is no longer than a second way in.
 #[derive_where(Clone, Copy)]
 pub struct Record<M> {
     of: PhantomData<M>,
