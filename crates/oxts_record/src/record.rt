@@ -27,7 +27,7 @@ pub trait Marker {
     ghost longest: { LONGEST ≡ longest_of FORMAT };
 }
 
-// What it answers of the navigation is proved there once, for any format: passing on is no longer than a second way in.
+// The navigation is apart, since what is proved of channels needs no family. So it passes questions on: one struct would be no plainer.
 #[derive_where(Clone, Copy)]
 pub struct Record<M> {
     of: PhantomData<M>,
