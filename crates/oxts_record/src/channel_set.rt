@@ -2,6 +2,7 @@
 ghost use Rattle.std.specs.Prelude.{◌≡◌, ℕ, ◌<◌, ◌||◌, ◌==◌};
 ghost use Rattle.oxts_record.specs.ChannelSets.{no_channels, has, with_channel, members};
 
+// Four words, whose ones are counted: a byte for each channel would take eight times the memory.
 #[derive(Clone, Copy)]
 pub struct ChannelSet {
     words: [u64; 4],

@@ -27,7 +27,7 @@ pub trait Marker {
     ghost longest: { LONGEST ≡ longest_of FORMAT };
 }
 
-// The navigation is apart, since what is proved of channels needs no family. So it passes questions on: one struct would be no plainer.
+// What is proved of channels needs no family: so the navigation is apart, and the record passes questions on to it.
 #[derive_where(Clone, Copy)]
 pub struct Record<M> {
     of: PhantomData<M>,
