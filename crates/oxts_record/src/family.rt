@@ -49,17 +49,17 @@ pub type Ncom = Oxts<NcomFormat>;
 pub type Mcom = Oxts<McomFormat>;
 
 impl<M: Marker> Family for Oxts<M> {
+    ghost LONGEST = { M.LONGEST };
+
     const LONGEST: usize = M::LONGEST;
 
     type Record = Record<M>;
 
     ghost model = { family_model M.FORMAT };
 
-    ghost laws = { family_laws M.FORMAT };
+    ghost longest = { M.longest };
 
-    fn longest_packet() -> usize {
-        M::LONGEST
-    }
+    ghost laws = { family_laws M.FORMAT };
 
     fn judge(bytes: &[u8]) -> Verdict {
         judge(M::FORMAT, bytes)

@@ -1,15 +1,15 @@
 // What the packets of one device leave behind: the latest quantities, and the eight bytes of each status channel.
-ghost use Rattle.std.specs.Prelude.{◌≡◌, ◌<◌};
+ghost use Rattle.std.specs.Prelude.{◌≡◌};
 ghost use Rattle.oxts.specs.Status.{is_structure_a};
 ghost use Rattle.oxts_record.specs.ChannelSets.{members};
-ghost use Rattle.oxts_record.specs.Navigations.{first_navigation, batch_at, channel_taken, navigation_after, channel_of};
+ghost use Rattle.oxts_record.specs.Navigations.{first_navigation, channel_taken, navigation_after, channel_of};
 ghost use Rattle.oxts_record.specs.Questions.{minutes_in, time_from, field_of, full_time_of};
 
 use crate::channel_set::ChannelSet;
 use crate::snapshot::Snapshot;
 use oxts::format::Format;
 use oxts::status::{Structure, structure_of};
-use oxts::words::byte_at;
+use oxts::words::{byte_at, bytes_at};
 use oxts_fields::ask;
 use oxts_fields::refusal::Refusal;
 
@@ -25,23 +25,6 @@ fn is_structure_a(status: u8) -> bool
     ensures value { result ≡ is_structure_a status }
 {
     matches!(structure_of(status), Some(Structure::StructureA))
-}
-
-// The eight bytes behind a place.
-fn batch_at(packet: &[u8], at: usize) -> [u8; 8]
-    requires few { at < 128 }
-    ensures value { result ≡ batch_at packet.now at }
-{
-    [
-        byte_at(packet, at + 1),
-        byte_at(packet, at + 2),
-        byte_at(packet, at + 3),
-        byte_at(packet, at + 4),
-        byte_at(packet, at + 5),
-        byte_at(packet, at + 6),
-        byte_at(packet, at + 7),
-        byte_at(packet, at + 8),
-    ]
 }
 
 // The minutes of channel 0, as the pattern of a signed number of 32 bits.
@@ -80,7 +63,7 @@ impl Navigation {
     {
         let place = format.channel_place();
         let channel = byte_at(packet, place);
-        self.channels[channel as usize] = batch_at(packet, place);
+        self.channels[channel as usize] = bytes_at(packet, place + 1);
         self.heard.insert(channel);
     }
 
