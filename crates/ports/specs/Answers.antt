@@ -29,16 +29,18 @@ OpenNames port wanted (Err (opening.NoPort p)) = p ≡ port
 OpenNames port wanted (Err (opening.AlreadyOpen p)) = p ≡ port
 OpenNames port wanted (Err (opening.BadKinds w)) = w ≡ wanted
 
+abbrev pub NamesPort : (port : ℕ) → PortRefusal → Type 0
+NamesPort port (asking.NoPort p) = p ≡ port
+NamesPort port (asking.NotOpen p) = p ≡ port
+
 abbrev pub TakeNames : (port : ℕ) → Result Message TakeRefusal → Type 0
 TakeNames port (Ok m) = Unit {0}
-TakeNames port (Err (taking.NoPort p)) = p ≡ port
-TakeNames port (Err (taking.NotOpen p)) = p ≡ port
+TakeNames port (Err (taking.Port e)) = NamesPort port e
 TakeNames port (Err (taking.NothingWaits p)) = p ≡ port
 
 abbrev pub PortNames : (port : ℕ) → Result ℕ PortRefusal → Type 0
 PortNames port (Ok n) = Unit {0}
-PortNames port (Err (asking.NoPort p)) = p ≡ port
-PortNames port (Err (asking.NotOpen p)) = p ≡ port
+PortNames port (Err e) = NamesPort port e
 
 -- A refused call leaves what it was called on as it was.
 abbrev pub Unchanged : {T E A : Type 0} → Result T E → (before after : A) → Type 0

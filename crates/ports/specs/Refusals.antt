@@ -12,11 +12,10 @@ open_number (opening.NoPort port) = 4
 open_number (opening.AlreadyOpen port) = 5
 open_number (opening.BadKinds wanted) = 6
 
-abbrev pub take_number : TakeRefusal → ℕ
-take_number (taking.NoPort port) = 4
-take_number (taking.NotOpen port) = 7
-take_number (taking.NothingWaits port) = 8
-
 abbrev pub port_number : PortRefusal → ℕ
 port_number (asking.NoPort port) = 4
 port_number (asking.NotOpen port) = 7
+
+abbrev pub take_number : TakeRefusal → ℕ
+take_number (taking.Port refusal) = port_number refusal
+take_number (taking.NothingWaits port) = 8

@@ -59,7 +59,7 @@ impl Port {
         ensures refused { Unchanged result self.old self.new }
     {
         if self.wanted.is_none() {
-            return Err(TakeRefusal::NotOpen(port));
+            return Err(TakeRefusal::Port(PortRefusal::NotOpen(port)));
         }
         self.queue.pop().ok_or(TakeRefusal::NothingWaits(port))
     }

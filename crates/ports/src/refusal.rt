@@ -1,5 +1,6 @@
-// Why a port is not opened, gives no message, or is not closed or counted.
+// Why a port is not opened, is not closed or counted, or gives no message.
 ghost use Rattle.std.specs.Prelude.{◌≡◌};
+ghost use Rattle.ports.specs.declared.refusal.TakeRefusal.TheVariants.{Port};
 ghost use Rattle.ports.specs.Refusals.{open_number, take_number, port_number};
 
 use std::fmt;
@@ -24,21 +25,21 @@ impl OpenRefusal {
     }
 }
 
-#[derive(Clone, Copy, Debug)]
-pub enum TakeRefusal {
-    NoPort(u32),
-    NotOpen(u32),
-    NothingWaits(u32),
-}
-
-impl TakeRefusal {
-    pub fn number(self) -> u8
-        ensures value { result ≡ take_number self }
-    {
+impl fmt::Display for OpenRefusal {
+    fn fmt<W: fmt::Write>(&self, f: &mut fmt::Formatter<W>) -> fmt::Result {
+        let number = self.number();
         match self {
-            TakeRefusal::NoPort(_) => 4,
-            TakeRefusal::NotOpen(_) => 7,
-            TakeRefusal::NothingWaits(_) => 8,
+            OpenRefusal::NoPort(port) => write!(
+                f,
+                "refusal {number}: there is no port {port}, ports are 0 to 7"
+            ),
+            OpenRefusal::AlreadyOpen(port) => {
+                write!(f, "refusal {number}: port {port} is open already")
+            }
+            OpenRefusal::BadKinds(wanted) => write!(
+                f,
+                "refusal {number}: {wanted} is no sum of kinds from 1 to 31"
+            ),
         }
     }
 }
@@ -60,41 +61,6 @@ impl PortRefusal {
     }
 }
 
-impl fmt::Display for OpenRefusal {
-    fn fmt<W: fmt::Write>(&self, f: &mut fmt::Formatter<W>) -> fmt::Result {
-        let number = self.number();
-        match self {
-            OpenRefusal::NoPort(port) => write!(
-                f,
-                "refusal {number}: there is no port {port}, ports are 0 to 7"
-            ),
-            OpenRefusal::AlreadyOpen(port) => {
-                write!(f, "refusal {number}: port {port} is open already")
-            }
-            OpenRefusal::BadKinds(wanted) => write!(
-                f,
-                "refusal {number}: {wanted} is no sum of kinds from 1 to 31"
-            ),
-        }
-    }
-}
-
-impl fmt::Display for TakeRefusal {
-    fn fmt<W: fmt::Write>(&self, f: &mut fmt::Formatter<W>) -> fmt::Result {
-        let number = self.number();
-        match self {
-            TakeRefusal::NoPort(port) => write!(
-                f,
-                "refusal {number}: there is no port {port}, ports are 0 to 7"
-            ),
-            TakeRefusal::NotOpen(port) => { write!(f, "refusal {number}: port {port} is not open") }
-            TakeRefusal::NothingWaits(port) => {
-                write!(f, "refusal {number}: nothing waits at port {port}")
-            }
-        }
-    }
-}
-
 impl fmt::Display for PortRefusal {
     fn fmt<W: fmt::Write>(&self, f: &mut fmt::Formatter<W>) -> fmt::Result {
         let number = self.number();
@@ -104,6 +70,43 @@ impl fmt::Display for PortRefusal {
                 "refusal {number}: there is no port {port}, ports are 0 to 7"
             ),
             PortRefusal::NotOpen(port) => { write!(f, "refusal {number}: port {port} is not open") }
+        }
+    }
+}
+
+#[derive(Clone, Copy, Debug)]
+pub enum TakeRefusal {
+    Port(PortRefusal),
+    NothingWaits(u32),
+}
+
+impl TakeRefusal {
+    pub fn number(self) -> u8
+        ensures value { result ≡ take_number self }
+    {
+        match self {
+            TakeRefusal::Port(refusal) => refusal.number(),
+            TakeRefusal::NothingWaits(_) => 8,
+        }
+    }
+}
+
+impl From<PortRefusal> for TakeRefusal {
+    ghost from_gives = { λ refusal result. result ≡ Port refusal };
+
+    fn from(refusal: PortRefusal) -> TakeRefusal {
+        TakeRefusal::Port(refusal)
+    }
+}
+
+impl fmt::Display for TakeRefusal {
+    fn fmt<W: fmt::Write>(&self, f: &mut fmt::Formatter<W>) -> fmt::Result {
+        match self {
+            TakeRefusal::Port(refusal) => refusal.fmt(f),
+            TakeRefusal::NothingWaits(port) => {
+                let number = self.number();
+                write!(f, "refusal {number}: nothing waits at port {port}")
+            }
         }
     }
 }

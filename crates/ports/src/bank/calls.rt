@@ -45,7 +45,7 @@ impl Bank {
         ensures refused { Unchanged result self.old self.new }
     {
         if port >= PORTS {
-            return Err(TakeRefusal::NoPort(port));
+            return Err(TakeRefusal::Port(PortRefusal::NoPort(port)));
         }
         self.ports[port as usize].take(port)
     }
