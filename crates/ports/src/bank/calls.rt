@@ -1,5 +1,7 @@
 // The calls of the ports by number, and the messages that a reader hands to all of them.
 ghost use Rattle.std.specs.Prelude.{◌≡◌, ◌+◌, ◌^◌, ◌<◌, map};
+ghost use Rattle.std.specs.Option.{SomeIff};
+ghost use Rattle.law.specs.Calls.{ports};
 ghost use Rattle.law.specs.Calls.PortCall.{Open as AskOpen, Take as AskTake, Missed as AskMissed, Close as AskClose};
 ghost use Rattle.law.specs.Slots.{new_ports, port_answer, port_after, published_to};
 ghost use Rattle.ports.specs.Ports.{slot_of, slots_of, most_missed, Took};
@@ -14,6 +16,13 @@ use reading::sink::Sink;
 // Ports are numbered from 0.
 const PORTS: u32 = 8;
 
+// Where the port of that number stands; none if there is no such port.
+fn index_of(port: u32) -> Option<usize>
+    ensures index { SomeIff result (port < ports) port }
+{
+    (port < PORTS).then_some(port as usize)
+}
+
 impl Bank {
     // All ports are closed.
     pub fn new() -> Bank
@@ -25,29 +34,27 @@ impl Bank {
     }
 
     // Opens a port for the kinds whose bits `wanted` sums.
+    #[tactic(auto, using(crate::proofs::Rows::at_after))]
     pub fn open(&mut self, port: u32, wanted: u32) -> Result<(), OpenRefusal>
         ensures answer { open_answer result ≡ port_answer (slots_of self.old) port (AskOpen wanted) }
         ensures after { slots_of self.new ≡ port_after (slots_of self.old) port (AskOpen wanted) }
         ensures names { OpenNames port wanted result }
         ensures refused { Unchanged result self.old self.new }
     {
-        if port >= PORTS {
-            return Err(OpenRefusal::NoPort(port));
-        }
-        self.ports[port as usize].open(port, wanted)
+        let i = index_of(port).ok_or(OpenRefusal::NoPort(port))?;
+        self.ports[i].open(port, wanted)
     }
 
     // Gives the oldest message that waits at a port.
+    #[tactic(auto, using(crate::proofs::Rows::at_after))]
     pub fn take(&mut self, port: u32) -> Result<Message, TakeRefusal>
         ensures answer { take_answer result ≡ port_answer (slots_of self.old) port AskTake }
         ensures after { slots_of self.new ≡ port_after (slots_of self.old) port AskTake }
         ensures names { TakeNames port result }
         ensures refused { Unchanged result self.old self.new }
     {
-        if port >= PORTS {
-            return Err(TakeRefusal::Port(PortRefusal::NoPort(port)));
-        }
-        self.ports[port as usize].take(port)
+        let i = index_of(port).ok_or(PortRefusal::NoPort(port))?;
+        self.ports[i].take(port)
     }
 
     // How many messages a port missed since it was opened.
@@ -55,23 +62,20 @@ impl Bank {
         ensures answer { count_answer result ≡ port_answer (slots_of self.now) port AskMissed }
         ensures names { PortNames port result }
     {
-        if port >= PORTS {
-            return Err(PortRefusal::NoPort(port));
-        }
-        self.ports[port as usize].missed(port)
+        let i = index_of(port).ok_or(PortRefusal::NoPort(port))?;
+        self.ports[i].missed(port)
     }
 
     // Closes a port, and says how many waiting messages it throws away.
+    #[tactic(auto, using(crate::proofs::Rows::at_after))]
     pub fn close(&mut self, port: u32) -> Result<u64, PortRefusal>
         ensures answer { count_answer result ≡ port_answer (slots_of self.old) port AskClose }
         ensures after { slots_of self.new ≡ port_after (slots_of self.old) port AskClose }
         ensures names { PortNames port result }
         ensures refused { Unchanged result self.old self.new }
     {
-        if port >= PORTS {
-            return Err(PortRefusal::NoPort(port));
-        }
-        self.ports[port as usize].close(port)
+        let i = index_of(port).ok_or(PortRefusal::NoPort(port))?;
+        self.ports[i].close(port)
     }
 }
 
