@@ -2,13 +2,14 @@
 use Rattle.std.specs.Prelude.{◌≡◌, ℕ, ◌+◌, ◌^◌, ◌<◌, max, List, [], ◌∷◌, map, Some, None, Option}
 use Rattle.reading.specs.declared.message.Message.{Message}
 use Rattle.law.specs.Slots.{Slot, shut, opened, published_to}
+use Rattle.ports.specs.declared.kinds.Kinds.{Kinds}
 use Rattle.ports.specs.declared.port.Port.{Port}
 use Rattle.ports.specs.declared.bank.Bank.{Bank}
 use Rattle.ports.specs.Queues.{items}
 
-abbrev pub slot_with : Option ℕ → List Message → ℕ → Slot
+abbrev pub slot_with : Option Kinds → List Message → ℕ → Slot
 slot_with None waiting missed = shut
-slot_with (Some wanted) waiting missed = opened wanted waiting missed
+slot_with (Some kinds) waiting missed = opened kinds.0 waiting missed
 
 abbrev pub slot_of : Port → Slot
 slot_of p = slot_with p.wanted (items p.queue) p.missed

@@ -3,6 +3,7 @@
 #![tactic(auto)]
 
 pub mod bank;
+mod kinds;
 mod port;
 mod queue;
 pub mod refusal;

@@ -5,18 +5,15 @@ ghost use Rattle.law.specs.Slots.{shut, slot_answer, slot_after, arrived};
 ghost use Rattle.ports.specs.Ports.{slot_of, Room};
 ghost use Rattle.ports.specs.Answers.{open_answer, take_answer, count_answer, OpenNames, TakeNames, PortNames, Unchanged};
 
+use crate::kinds::Kinds;
 use crate::queue::Queue;
 use crate::refusal::{OpenRefusal, PortRefusal, TakeRefusal};
 use reading::message::Message;
 
-// The sum of the bits of all kinds.
-const ALL_KINDS: u32 = 31;
-
 // While a port is closed, `wanted` is none, and the rest means nothing.
 #[derive(Clone, Copy)]
 pub struct Port {
-    // The sum of the bits of the kinds that are wanted.
-    wanted: Option<u8>,
+    wanted: Option<Kinds>,
     queue: Queue,
     missed: u64,
 }
@@ -42,10 +39,8 @@ impl Port {
         if self.wanted.is_some() {
             return Err(OpenRefusal::AlreadyOpen(port));
         }
-        if wanted == 0 || wanted > ALL_KINDS {
-            return Err(OpenRefusal::BadKinds(wanted));
-        }
-        self.wanted = Some(wanted as u8);
+        let kinds = Kinds::try_from(wanted).map_err(|_| OpenRefusal::BadKinds(wanted))?;
+        self.wanted = Some(kinds);
         self.queue.clear();
         self.missed = 0;
         Ok(())
@@ -96,7 +91,7 @@ impl Port {
         let Some(wanted) = self.wanted else {
             return;
         };
-        if wanted & message.kind.bit() == 0 {
+        if !wanted.contains(message.kind) {
             return;
         }
         if !self.queue.push(message) {
