@@ -1,10 +1,12 @@
 -- A ring of sixteen places, from its place `head` on.
-use Rattle.std.proofs.Common.{◌≡◌, ℕ, zero, suc, ◌+◌, ◌-◌, ◌%◌, ◌<◌, ◌≤◌, ◌⊎◌, List, [], ◌∷◌, ◌++◌, length, get_or, take, drop, set, sym, ap, ◌∙◌, inl, inr, append_assoc, append-nil, add-one, arith, length-append, length-drop, length-take, length-take-le, take_all, drop-cons, take-suc, drop-set-lt}
+use Rattle.std.proofs.Common.{◌≡◌, ℕ, zero, suc, ◌+◌, ◌-◌, ◌%◌, ◌<◌, ◌≤◌, ◌⊎◌, ltb, List, [], ◌∷◌, ◌++◌, length, get_or, take, drop, set, sym, ap, ◌∙◌, inl, inr, append_assoc, append-nil, add-one, arith, length-append, length-drop, length-take, length-take-le, take_all, drop-cons, take-suc, drop-set-lt}
 use lib.Seq.{take-append-le, take-set-le, drop-set-add, take-set-lt}
 use Rattle.std.proofs.lemmas.List.{take_more_set, set-append_left, set-append_right, drop_all}
-use Rattle.std.proofs.lemmas.Bool.{cases_lt}
+use Rattle.std.proofs.lemmas.Bool.{cases_lt, cond-true, lt-ltb}
 use Rattle.reading.specs.declared.message.Message.{Message}
-use Rattle.ports.specs.Queues.{rotated}
+use Rattle.law.specs.Calls.{depth}
+use Rattle.law.specs.Slots.{placed}
+use Rattle.ports.specs.Queues.{rotated, rest}
 
 module _ (ring : List Message) (full : length ring ≡ 16) (head : ℕ) (within : head < 16) where
   pub length_rotated : length (rotated ring head) ≡ 16
@@ -35,8 +37,11 @@ module _ (ring : List Message) (full : length ring ≡ 16) (head : ℕ) (within 
           ∙ ap (λ j. drop head ring ++ set (take head ring) j m) (sym same)
           ∙ sym (set-append_right (drop head ring) (take head ring) (16 - head) len m n (omega arith))
 
-  pub push_ring : (len : ℕ) (m : Message) → len < 16 → take (len + 1) (rotated (set ring ((head + len) % 16) m) head) ≡ take len (rotated ring head) ++ m ∷ []
-  push_ring len m few = ap (take (len + 1)) (set_rotated len m few) ∙ take_more_set (rotated ring head) len m (rw length_rotated few)
+  pub push_ring : (len : ℕ) (m : Message) → len < 16 → take (len + 1) (rotated (set ring ((head + len) % 16) m) head) ≡ placed depth (take len (rotated ring head)) m
+  push_ring len m few =
+      let waiting = take len (rotated ring head) in
+      ap (take (len + 1)) (set_rotated len m few) ∙ take_more_set (rotated ring head) len m (rw length_rotated few)
+      ∙ sym (cond-true (ltb (length waiting) depth) (waiting ++ m ∷ []) waiting (lt-ltb (length waiting) depth (rw (length_items len (omega arith)) few)))
 
   -- the ring from the next place on
   next_rotated : (d : Message) → rotated ring ((head + 1) % 16) ≡ (drop (head + 1) ring ++ take head ring) ++ get_or ring head d ∷ []
@@ -54,7 +59,7 @@ module _ (ring : List Message) (full : length ring ≡ 16) (head : ℕ) (within 
           ap (rotated ring) i ∙ append-nil ring ∙ sym (take_all (head + 1) ring (omega arith)) ∙ one
           ∙ ap (λ xs. (xs ++ take head ring) ++ get_or ring head d ∷ []) (sym (drop_all (head + 1) ring (omega arith)))
 
-  pub pop_ring : (len : ℕ) (d : Message) → 0 < len → len ≤ 16 → take len (rotated ring head) ≡ get_or ring head d ∷ take (len - 1) (rotated ring ((head + 1) % 16))
+  pop_ring : (len : ℕ) (d : Message) → 0 < len → len ≤ 16 → take len (rotated ring head) ≡ get_or ring head d ∷ take (len - 1) (rotated ring ((head + 1) % 16))
   pop_ring zero d some few = absurd (omega arith)
   pop_ring (suc k) d some few =
       let left = drop (head + 1) ring ++ take head ring in
@@ -63,3 +68,7 @@ module _ (ring : List Message) (full : length ring ≡ 16) (head : ℕ) (within 
       let minus : suc k - 1 ≡ k = omega arith in
       ap (λ xs. take (suc k) (xs ++ take head ring)) front
       ∙ ap (λ xs. get_or ring head d ∷ xs) (sym (take-append-le k left (get_or ring head d ∷ []) long) ∙ ap (take k) (sym (next_rotated d)) ∙ ap (λ j. take j (rotated ring ((head + 1) % 16))) (sym minus))
+
+pub rest_ring : (ring : List Message) → length ring ≡ 16 → (head : ℕ) → head < 16 → (len : ℕ) → 0 < len → len ≤ 16 → rest (take len (rotated ring head)) ≡ take (len - 1) (rotated ring ((head + 1) % 16))
+rest_ring [] full head within len some few = absurd (let z : ⊥ = omega (arith, full) in z)
+rest_ring (m ∷ ms) full head within len some few = ap rest (pop_ring (m ∷ ms) full head within len m some few)

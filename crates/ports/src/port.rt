@@ -10,7 +10,8 @@ use crate::queue::Queue;
 use crate::refusal::{OpenRefusal, PortRefusal, TakeRefusal};
 use reading::message::Message;
 
-// While a port is closed, `wanted` is none, and the rest means nothing.
+// While a port is closed, `wanted` is none, and the rest means nothing. It stands beside: memory is fixed, and an opening
+// empties the queue in its place, where an `Option` of an open port would write all sixteen places anew.
 #[derive(Clone, Copy)]
 pub struct Port {
     wanted: Option<Kinds>,
@@ -53,9 +54,7 @@ impl Port {
         ensures names { TakeNames port result }
         ensures refused { Unchanged result self.old self.new }
     {
-        if self.wanted.is_none() {
-            return Err(TakeRefusal::Port(PortRefusal::NotOpen(port)));
-        }
+        self.wanted.ok_or(PortRefusal::NotOpen(port))?;
         self.queue.pop().ok_or(TakeRefusal::NothingWaits(port))
     }
 
@@ -64,10 +63,8 @@ impl Port {
         ensures answer { count_answer result ≡ slot_answer (slot_of self.now) AskMissed }
         ensures names { PortNames port result }
     {
-        match self.wanted {
-            None => Err(PortRefusal::NotOpen(port)),
-            Some(_) => Ok(self.missed),
-        }
+        self.wanted.ok_or(PortRefusal::NotOpen(port))?;
+        Ok(self.missed)
     }
 
     // Closes the port, and says how many waiting messages it throws away.
@@ -77,10 +74,7 @@ impl Port {
         ensures names { PortNames port result }
         ensures refused { Unchanged result self.old self.new }
     {
-        if self.wanted.is_none() {
-            return Err(PortRefusal::NotOpen(port));
-        }
-        self.wanted = None;
+        self.wanted.take().ok_or(PortRefusal::NotOpen(port))?;
         Ok(self.queue.len() as u64)
     }
 
@@ -88,13 +82,10 @@ impl Port {
     pub fn arrive(&mut self, message: Message)
         ensures after { Room self.old → slot_of self.new ≡ arrived (slot_of self.old) message }
     {
-        let Some(wanted) = self.wanted else {
-            return;
-        };
-        if !wanted.contains(message.kind) {
-            return;
-        }
-        if !self.queue.push(message) {
+        let wants = self
+            .wanted
+            .is_some_and(|kinds| kinds.contains(message.kind));
+        if wants && self.queue.push(message).is_err() {
             self.missed = self.missed.saturating_add(1);
         }
     }

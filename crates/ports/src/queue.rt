@@ -5,13 +5,19 @@ use reading::message::Message;
 
 mod calls;
 
-// The messages lie in a ring: the oldest at `head`, and `len` of them from there on.
+const DEPTH: usize = 16;
+
+// The messages lie in a ring: the oldest at `head`, and `len` of them from there on. The kit's ring, circular_buffer, is on the heap, and nothing here may allocate.
 #[derive(Clone, Copy)]
 pub struct Queue {
-    ring: [Message; 16],
+    ring: [Message; DEPTH],
     head: usize,
     len: usize,
     ghost full: { length ring ≡ 16 },
     ghost within: { head < 16 },
     ghost few: { len ≤ 16 },
 }
+
+// There is no room for one more.
+#[derive(Clone, Copy, Debug)]
+pub struct Full;

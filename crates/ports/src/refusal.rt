@@ -94,8 +94,8 @@ impl TakeRefusal {
 impl From<PortRefusal> for TakeRefusal {
     ghost from_gives = { λ refusal result. result ≡ Port refusal };
 
-    fn from(refusal: PortRefusal) -> TakeRefusal {
-        TakeRefusal::Port(refusal)
+    fn from(error: PortRefusal) -> TakeRefusal {
+        TakeRefusal::Port(error)
     }
 }
 

@@ -1,13 +1,12 @@
 // What can be done with a queue: its contracts give the messages in it, oldest first.
-ghost use Rattle.std.specs.Prelude.{◌≡◌, [], length, nat_lt};
+ghost use Rattle.std.specs.Prelude.{◌≡◌, [], ◌<◌, length};
+ghost use Rattle.std.specs.Result.{OkIff};
 ghost use Rattle.law.specs.Calls.{depth};
 ghost use Rattle.law.specs.Slots.{placed};
 ghost use Rattle.ports.specs.Queues.{items, first, rest, Unpopped};
 
-use super::Queue;
+use super::{DEPTH, Full, Queue};
 use reading::message::{Kind, Message};
-
-const DEPTH: usize = 16;
 
 // What lies in the unused places of a ring.
 const BLANK: Message = Message {
@@ -23,7 +22,7 @@ impl Queue {
         ensures items { items result ≡ [] }
     {
         Queue {
-            ring: [BLANK; 16],
+            ring: [BLANK; DEPTH],
             head: 0,
             len: 0,
         }
@@ -42,18 +41,18 @@ impl Queue {
         self.len
     }
 
-    // Places `message` behind those that wait, if there is room, and says whether there was.
-    pub fn push(&mut self, message: Message) -> bool
-        ensures room { result ≡ nat_lt (length (items self.old)) depth }
+    // Places `message` behind those that wait, if there is room.
+    pub fn push(&mut self, message: Message) -> Result<(), Full>
+        ensures room { OkIff result (length (items self.old) < depth) tt }
         ensures after { items self.new ≡ placed depth (items self.old) message }
     {
         if self.len == DEPTH {
-            return false;
+            return Err(Full);
         }
         let end = (self.head + self.len) % DEPTH;
         self.ring[end] = message;
         self.len += 1;
-        true
+        Ok(())
     }
 
     // Takes out the oldest that waits.
