@@ -9,7 +9,7 @@ use Rattle.ports.specs.Queues.{items}
 
 abbrev pub slot_with : Option Kinds → List Message → ℕ → Slot
 slot_with None waiting missed = shut
-slot_with (Some kinds) waiting missed = opened kinds.0 waiting missed
+slot_with (Some kinds) waiting missed = opened kinds.sum waiting missed
 
 abbrev pub slot_of : Port → Slot
 slot_of p = slot_with p.wanted (items p.queue) p.missed

@@ -1,5 +1,5 @@
 // The kinds of messages that an open port wants.
-ghost use Rattle.std.specs.Prelude.{◌≡◌, ◌==◌, true, false, not, bit_and};
+ghost use Rattle.std.specs.Prelude.{◌≡◌, ◌<◌, ◌≤◌, ◌==◌, true, false, not, bit_and};
 ghost use Rattle.std.specs.Result.{MatchResult};
 ghost use Rattle.reading.specs.Kinds.{kind_bit};
 ghost use Rattle.law.specs.Calls.{wantable};
@@ -11,29 +11,33 @@ const ALL_KINDS: u32 = 31;
 
 // The sum of the bits of some kinds.
 #[derive(Clone, Copy)]
-pub struct Kinds(u8);
+pub struct Kinds {
+    sum: u8,
+    ghost some: { 0 < sum },
+    ghost known: { sum ≤ 31 },
+}
 
 // A number that is no sum of kinds.
-#[derive(Clone, Copy, Debug)]
+#[derive(Clone, Copy)]
 pub struct NoKinds;
 
 impl Kinds {
     pub fn contains(self, kind: Kind) -> bool
-        ensures value { result ≡ not (bit_and self.0 (kind_bit kind) == 0) }
+        ensures value { result ≡ not (bit_and self.sum (kind_bit kind) == 0) }
     {
-        self.0 & kind.bit() != 0
+        self.sum & kind.bit() != 0
     }
 }
 
 impl TryFrom<u32> for Kinds {
     type Error = NoKinds;
 
-    ghost try_from_gives = { λ sum r. MatchResult r (λ kinds. (wantable sum ≡ true) × (kinds.0 ≡ sum)) (λ _. wantable sum ≡ false) };
+    ghost try_from_gives = { λ sum r. MatchResult r (λ kinds. (wantable sum ≡ true) × (kinds.sum ≡ sum)) (λ _. wantable sum ≡ false) };
 
     fn try_from(sum: u32) -> Result<Kinds, NoKinds> {
         if sum == 0 || sum > ALL_KINDS {
             return Err(NoKinds);
         }
-        Ok(Kinds(sum as u8))
+        Ok(Kinds { sum: sum as u8 })
     }
 }

@@ -19,5 +19,5 @@ pub struct Queue {
 }
 
 // There is no room for one more.
-#[derive(Clone, Copy, Debug)]
+#[derive(Clone, Copy)]
 pub struct Full;

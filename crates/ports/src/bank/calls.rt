@@ -7,20 +7,18 @@ ghost use Rattle.law.specs.Slots.{new_ports, port_answer, port_after, published_
 ghost use Rattle.ports.specs.Ports.{slot_of, slots_of, most_missed, Took};
 ghost use Rattle.ports.specs.Answers.{open_answer, take_answer, count_answer, OpenNames, TakeNames, PortNames, Unchanged};
 
-use super::Bank;
+use super::{Bank, PORTS};
 use crate::port::Port;
 use crate::refusal::{OpenRefusal, PortRefusal, TakeRefusal};
 use reading::message::Message;
 use reading::sink::Sink;
 
-// Ports are numbered from 0.
-const PORTS: u32 = 8;
-
 // Where the port of that number stands; none if there is no such port.
 fn index_of(port: u32) -> Option<usize>
     ensures index { SomeIff result (port < ports) port }
 {
-    (port < PORTS).then_some(port as usize)
+    let i = port as usize;
+    (i < PORTS).then_some(i)
 }
 
 impl Bank {
@@ -29,7 +27,7 @@ impl Bank {
         ensures slots { slots_of result ≡ new_ports }
     {
         Bank {
-            ports: [Port::new(); 8],
+            ports: [Port::new(); PORTS],
         }
     }
 
