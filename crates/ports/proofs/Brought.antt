@@ -1,5 +1,5 @@
 -- A message is brought to one port of the row after another.
-use Rattle.std.proofs.Common.{◌≡◌, ℕ, ◌+◌, ◌^◌, ◌<◌, List, map, length, get_or, take, drop, set, arith, add-zero, length-set, get_or-drop, drop-drop, drop-set-lt, sym, ap, ◌∙◌}
+use Rattle.std.proofs.Common.{◌≡◌, ℕ, ◌+◌, ◌^◌, ◌<◌, List, map, length, get_or, take, drop, set, arith, length-set, get_or-drop, drop-drop, drop-set-lt, sym, ◌∙◌}
 use Rattle.std.proofs.lemmas.Grind.{common_steps}
 use Rattle.std.proofs.lemmas.List.{get_or-map, take_more, take_more_set, map_push}
 use Rattle.reading.specs.declared.message.Message.{Message}
@@ -14,17 +14,13 @@ pub record ReachedSoFar (m : Message) (was row : List Port) (i : ℕ) : Type 0 w
   pub back : drop i row ≡ drop i was
   pub long : length row ≡ length was
 
-same_item : (was row : List Port) (i : ℕ) (d : Port) → drop i row ≡ drop i was → get_or row i d ≡ get_or was i d
-same_item was row i d e = let at = λ (xs : List Port). sym (get_or-drop i xs 0 d ∙ ap (λ k. get_or xs k d) (add-zero i)) in at row ∙ ap (λ xs. get_or xs 0 d) e ∙ sym (at was)
-
 pub reached_more : {m : Message} {was row : List Port} {i : ℕ} → ReachedSoFar m was row i → (d y : Port) → i < length row → most_missed (map slot_of was) + 1 < 2 ^ 64
     → (Room (get_or row i d) → slot_of y ≡ arrived (slot_of (get_or row i d)) m) → ReachedSoFar m was (set row i y) (i + 1)
 reached_more {m} {was} {row} {i} so d y within room e =
     let within-was : i < length was = rw (sym so.long) within in
-    let same = same_item was row i d so.back in
+    let same : get_or row i d ≡ get_or was i d = grind (arith, get_or-drop i row 0 d, get_or-drop i was 0 d, so.back) in
     let most = most_at (map slot_of was) i in
-    let slot = get_or-map slot_of was i d shut within-was in
-    let fits : Room (get_or row i d) = grind arith in
+    let fits : Room (get_or row i d) = grind (arith, get_or-map slot_of was i d shut within-was) in
     let here = e fits in
     record {
       front = grind (arith, common_steps, take_more_set row i y within, map_push, take_more was i d within-was);
