@@ -1,74 +1,62 @@
--- A ring of sixteen places, from its place `head` on.
-use Rattle.std.proofs.Common.{◌≡◌, ℕ, zero, suc, ◌+◌, ◌-◌, ◌%◌, ◌<◌, ◌≤◌, ◌⊎◌, ltb, List, [], ◌∷◌, ◌++◌, length, get_or, take, drop, set, sym, ap, ◌∙◌, inl, inr, append_assoc, append-nil, add-one, arith, length-append, length-drop, length-take, length-take-le, take_all, drop-cons, take-suc, drop-set-lt}
-use lib.Seq.{take-append-le, take-set-le, drop-set-add, take-set-lt}
-use Rattle.std.proofs.lemmas.List.{take_more_set, set-append_left, set-append_right, drop_all}
-use Rattle.std.proofs.lemmas.Bool.{cases_lt, cond-true, lt-ltb}
+-- A ring of sixteen places, from its place `head` on: which place of the ring each of its places is, and so what a push and a pop leave.
+use Rattle.std.proofs.Common.{◌≡◌, ℕ, ◌+◌, ◌-◌, ◌%◌, ◌<◌, ◌≤◌, ◌⊎◌, inl, inr, List, [], ◌∷◌, length, get_or, take, drop, set, arith, length-drop}
+use Rattle.std.proofs.lemmas.Grind.{common_steps, get_or-set_at}
+use Rattle.std.proofs.lemmas.List.{same_lists, get_or_append_left, get_or-append-add, get_or-drop, get_or-take, get_or-set_other}
+use Rattle.std.proofs.lemmas.Bool.{cases_lt}
 use Rattle.reading.specs.declared.message.Message.{Message}
 use Rattle.law.specs.Calls.{depth}
 use Rattle.law.specs.Slots.{placed}
 use Rattle.ports.specs.Queues.{rotated, rest}
 
-module _ (ring : List Message) (full : length ring ≡ 16) (head : ℕ) (within : head < 16) where
-  pub length_rotated : length (rotated ring head) ≡ 16
-  length_rotated = simp (length-append, length-drop, length-take) (omega arith)
+length_rotated : (ring : List Message) (head : ℕ) → head < 16 → length ring ≡ 16 → length (rotated ring head) ≡ 16
+length_rotated ring head within full = grind (arith, common_steps)
 
-  pub length_items : (len : ℕ) → len ≤ 16 → length (take len (rotated ring head)) ≡ len
-  length_items len few = length-take-le len (rotated ring head) (rw length_rotated few)
+at_rotated : (ring : List Message) (head k : ℕ) (d : Message) → length ring ≡ 16 → head < 16 → k < 16 → get_or (rotated ring head) k d ≡ get_or ring ((head + k) % 16) d
+at_rotated ring head k d full within lt = by (cases_lt (head + k) 16)
+  where
+    long : length (drop head ring) ≡ 16 - head
+    long = simp length-drop (omega arith)
 
-  set_rotated : (len : ℕ) (m : Message) → len < 16 → rotated (set ring ((head + len) % 16) m) head ≡ set (rotated ring head) len m
-  set_rotated len m few = by (cases_lt (head + len) 16)
-    where
-      by : (head + len < 16) ⊎ (16 ≤ head + len) → rotated (set ring ((head + len) % 16) m) head ≡ set (rotated ring head) len m
-      by (inl below) =
-          let i : (head + len) % 16 ≡ head + len = omega arith in
-          let long : len < length (drop head ring) = simp length-drop (omega arith) in
-          ap (λ k. rotated (set ring k m) head) i
-          ∙ ap (λ xs. xs ++ take head (set ring (head + len) m)) (drop-set-add head ring len m)
-          ∙ ap (λ xs. set (drop head ring) len m ++ xs) (take-set-le head ring (head + len) m (omega arith))
-          ∙ sym (set-append_left (drop head ring) (take head ring) len m long)
-      by (inr above) =
-          let k : ℕ = head + len - 16 in
-          let i : (head + len) % 16 ≡ k = omega arith in
-          let n : length (drop head ring) ≡ 16 - head = simp length-drop (omega arith) in
-          let same : len - (16 - head) ≡ k = omega arith in
-          ap (λ j. rotated (set ring j m) head) i
-          ∙ ap (λ xs. xs ++ take head (set ring k m)) (drop-set-lt head ring k m (omega arith))
-          ∙ ap (λ xs. drop head ring ++ xs) (take-set-lt head ring k m (omega arith))
-          ∙ ap (λ j. drop head ring ++ set (take head ring) j m) (sym same)
-          ∙ sym (set-append_right (drop head ring) (take head ring) (16 - head) len m n (omega arith))
+    by : (head + k < 16) ⊎ (16 ≤ head + k) → get_or (rotated ring head) k d ≡ get_or ring ((head + k) % 16) d
+    by (inl below) = grind (arith, long, get_or_append_left (drop head ring) (take head ring) d k, get_or-drop head ring k d)
+    by (inr above) = grind (arith, long, get_or-append-add (drop head ring) (take head ring) (head + k - 16) d, get_or-take head ring (head + k - 16) d)
 
-  pub push_ring : (len : ℕ) (m : Message) → len < 16 → take (len + 1) (rotated (set ring ((head + len) % 16) m) head) ≡ placed depth (take len (rotated ring head)) m
-  push_ring len m few =
-      let waiting = take len (rotated ring head) in
-      ap (take (len + 1)) (set_rotated len m few) ∙ take_more_set (rotated ring head) len m (rw length_rotated few)
-      ∙ sym (cond-true (ltb (length waiting) depth) (waiting ++ m ∷ []) waiting (lt-ltb (length waiting) depth (rw (length_items len (omega arith)) few)))
+pub push_ring : (ring : List Message) (head len : ℕ) (m : Message) → length ring ≡ 16 → head < 16 → len < 16 →
+    take (len + 1) (rotated (set ring ((head + len) % 16) m) head) ≡ placed depth (take len (rotated ring head)) m
+push_ring ring head len m full within few = same_lists _ _ (grind (arith, common_steps, length_rotated)) each
+  where
+    end : ℕ
+    end = (head + len) % 16
 
-  -- the ring from the next place on
-  next_rotated : (d : Message) → rotated ring ((head + 1) % 16) ≡ (drop (head + 1) ring ++ take head ring) ++ get_or ring head d ∷ []
-  next_rotated d = by (cases_lt (head + 1) 16)
-    where
-      one : take (head + 1) ring ≡ take head ring ++ get_or ring head d ∷ []
-      one = rw add-one (take-suc ring head d (omega arith))
+    waiting : List Message
+    waiting = take len (rotated ring head)
 
-      by : (head + 1 < 16) ⊎ (16 ≤ head + 1) → rotated ring ((head + 1) % 16) ≡ (drop (head + 1) ring ++ take head ring) ++ get_or ring head d ∷ []
-      by (inl below) =
-          let i : (head + 1) % 16 ≡ head + 1 = omega arith in
-          ap (rotated ring) i ∙ ap (λ xs. drop (head + 1) ring ++ xs) one ∙ sym (append_assoc (drop (head + 1) ring) (take head ring) (get_or ring head d ∷ []))
-      by (inr above) =
-          let i : (head + 1) % 16 ≡ 0 = omega arith in
-          ap (rotated ring) i ∙ append-nil ring ∙ sym (take_all (head + 1) ring (omega arith)) ∙ one
-          ∙ ap (λ xs. (xs ++ take head ring) ++ get_or ring head d ∷ []) (sym (drop_all (head + 1) ring (omega arith)))
+    new : List Message
+    new = rotated (set ring end m) head
 
-  pop_ring : (len : ℕ) (d : Message) → 0 < len → len ≤ 16 → take len (rotated ring head) ≡ get_or ring head d ∷ take (len - 1) (rotated ring ((head + 1) % 16))
-  pop_ring zero d some few = absurd (omega arith)
-  pop_ring (suc k) d some few =
-      let left = drop (head + 1) ring ++ take head ring in
-      let front : drop head ring ≡ get_or ring head d ∷ drop (head + 1) ring = rw add-one (drop-cons ring head d (omega arith)) in
-      let long : k ≤ length left = simp (length-append, length-drop, length-take) (omega arith) in
-      let minus : suc k - 1 ≡ k = omega arith in
-      ap (λ xs. take (suc k) (xs ++ take head ring)) front
-      ∙ ap (λ xs. get_or ring head d ∷ xs) (sym (take-append-le k left (get_or ring head d ∷ []) long) ∙ ap (take k) (sym (next_rotated d)) ∙ ap (λ j. take j (rotated ring ((head + 1) % 16))) (sym minus))
+    each : (k : ℕ) (d : Message) → k < length (take (len + 1) new) → get_or (take (len + 1) new) k d ≡ get_or (placed depth waiting m) k d
+    each k d lt = by (cases_lt k len)
+      where
+        long : length waiting ≡ len
+        long = grind (arith, common_steps, length_rotated)
 
-pub rest_ring : (ring : List Message) → length ring ≡ 16 → (head : ℕ) → head < 16 → (len : ℕ) → 0 < len → len ≤ 16 → rest (take len (rotated ring head)) ≡ take (len - 1) (rotated ring ((head + 1) % 16))
-rest_ring [] full head within len some few = absurd (let z : ⊥ = omega (arith, full) in z)
-rest_ring (m ∷ ms) full head within len some few = ap rest (pop_ring (m ∷ ms) full head within len m some few)
+        at : get_or (take (len + 1) new) k d ≡ get_or (set ring end m) ((head + k) % 16) d
+        at = grind (arith, common_steps, at_rotated (set ring end m) head k d)
+
+        by : (k < len) ⊎ (len ≤ k) → get_or (take (len + 1) new) k d ≡ get_or (placed depth waiting m) k d
+        by (inl below) = grind (arith, at, long, get_or-set_other ring end ((head + k) % 16) m d (omega arith), get_or_append_left waiting (m ∷ []) d k, get_or-take, at_rotated ring head k d)
+        by (inr above) = grind (arith, common_steps, at, long, get_or-set_at ring end ((head + k) % 16) m d, length_rotated)
+
+length_rest : (xs : List Message) → length (rest xs) ≡ length xs - 1
+length_rest [] = grind arith
+length_rest (x ∷ xs) = grind arith
+
+at_rest : (xs : List Message) (k : ℕ) (d : Message) → get_or (rest xs) k d ≡ get_or xs (k + 1) d
+at_rest [] k d = grind (arith, common_steps)
+at_rest (x ∷ xs) k d = grind (arith, common_steps)
+
+pub rest_ring : (ring : List Message) (head len : ℕ) → length ring ≡ 16 → head < 16 → 0 < len → len ≤ 16 →
+    rest (take len (rotated ring head)) ≡ take (len - 1) (rotated ring ((head + 1) % 16))
+rest_ring ring head len full within some few =
+    same_lists _ _ (grind (arith, common_steps, length_rotated, length_rest))
+    (λ k d lt. grind (arith, common_steps, length_rotated, length_rest, at_rest, at_rotated ring head (k + 1) d, at_rotated ring ((head + 1) % 16) k d))
