@@ -4,7 +4,6 @@ use lib.Seq.{drop-append_seam}
 use Rattle.reading.specs.declared.family.Family.{Ghosts}
 use Rattle.reading.specs.declared.message.Message.{Message}
 use Rattle.reading.specs.Reading.{Model, Laws, reading}
-use Rattle.reader.specs.declared.reader.Reader.{Reader}
 use Rattle.reader.specs.Ledgers.{Handed}
 use Rattle.reader.specs.Standing.{Stands, Ran}
 use Rattle.reader.proofs.Feeding.{long}
@@ -24,7 +23,7 @@ use Rattle.gateway.specs.declared.gateway.Gateway.{Gateway}
 use Rattle.gateway.specs.declared.refusal.PumpRefusal.{PumpRefusal}
 use Rattle.gateway.specs.declared.refusal.PumpRefusal.TheVariants.{BadLimit, PastMost}
 use Rattle.gateway.specs.Passing.{Drawn, pump_number, pump_result, passed_by, PumpNames}
-use Rattle.gateway.specs.Standing.{Represents, GoesOn, Shows, showing}
+use Rattle.gateway.specs.Standing.{Represents, GoesOn, showing}
 use Rattle.gateway.proofs.Pumping.{Going, going_more, going_dry}
 
 -- A bank that was handed messages has them published to its ports.
@@ -42,10 +41,23 @@ handed_slots b (m ∷ ms) b' h few =
     let more : most_missed (slots_of h.0) ≤ most_missed (slots_of b) + 1 = subst (λ ss. most_missed ss ≤ most_missed (slots_of b) + 1) (sym first) (most_published (slots_of b) m) in
     handed_slots h.0 ms b' h.2 (omega (arith, more)) ∙ ap (λ ss. all_published_to ss ms) first
 
--- A call that a port refuses leaves the whole gateway as it was.
-pub refused_whole : {F R T E : Type 0} {G : Ghosts F R} (q : Result T E) (r : Reader F R G) (b b' : Bank) → Unchanged q b b' → Unchanged {A = Gateway F R G} q (record { reader = r; bank = b }) (record { reader = r; bank = b' })
-refused_whole (Ok v) r b b' u = tt
-refused_whole (Err e) r b b' u = ap (λ x. record { reader = r; bank = x }) u
+-- A call of a port takes the run one call on.
+pub goes_port : {F R : Type 0} {G : Ghosts F R} (model : Model R) (g g' : Gateway F R G) (p : ℕ) (c : PortCall) (a : Answer) (h : History R) → Represents model g h →
+    a ≡ port_answer (slots_of g.bank) p c → slots_of g'.bank ≡ port_after (slots_of g.bank) p c → g'.reader ≡ g.reader → Represents model g' (called h (At p c) a)
+goes_port model g g' p c a h rep answered changed kept =
+    record {
+      reads = subst (λ r. Stands model r (pumped h)) (sym kept) rep.reads;
+      run = subst (λ x. Reached model (record { bytes = pumped h; slots = slots_of g'.bank }) (called h (At p c) x)) (sym answered)
+          (subst (λ ss. Reached model (record { bytes = pumped h; slots = ss }) (called h (At p c) (port_answer (slots_of g.bank) p c))) (sym changed) (goes rep.run (At p c)));
+    }
+
+-- A question takes the run one question on.
+pub goes_asked : {F R : Type 0} {G : Ghosts F R} (model : Model R) (g : Gateway F R G) (q : Question) (s : Shown R) (h : History R) → Represents model g h → s ≡ shown_of model (pumped h) q → Represents model g (questioned h q s)
+goes_asked model g q s h rep is =
+    record { reads = rep.reads; run = subst (λ x. Reached model (record { bytes = pumped h; slots = slots_of g.bank }) (questioned h q x)) (sym is) (asks rep.run q) }
+
+pub begins_new : {F R : Type 0} {G : Ghosts F R} (model : Model R) (g : Gateway F R G) → Stands model g.reader [] → slots_of g.bank ≡ new_ports → Represents model g start
+begins_new model g st new = record { reads = st; run = subst (λ ss. Reached model (record { bytes = []; slots = ss }) start) (sym new) begins }
 
 module _ {R : Type 0} (model : Model R) (laws : Laws model) where
   follows : Follows model
@@ -105,15 +117,6 @@ module _ {R : Type 0} (model : Model R) (laws : Laws model) where
           run = subst (λ xs. Reached model (record { bytes = xs; slots = slots_of g.bank }) (called h (Pump limit W) (refused n))) (sym (append-nil bs)) there;
         }
 
-    pub goes_port : (g g' : Gateway F R G) (p : ℕ) (c : PortCall) (a : Answer) → a ≡ port_answer (slots_of g.bank) p c → slots_of g'.bank ≡ port_after (slots_of g.bank) p c →
-        g'.reader ≡ g.reader → GoesOn model g g' (At p c) a
-    goes_port g g' p c a answered changed kept h rep =
-        record {
-          reads = subst (λ r. Stands model r (pumped h)) (sym kept) rep.reads;
-          run = subst (λ x. Reached model (state_of g' h) (called h (At p c) x)) (sym answered)
-              (subst (λ ss. Reached model (record { bytes = pumped h; slots = ss }) (called h (At p c) (port_answer (slots_of g.bank) p c))) (sym changed) (goes rep.run (At p c)));
-        }
-
     -- what a gateway shows is what the reading has
     pub showing_reads : (g : Gateway F R G) (bs : List ℕ) → Stands model g.reader bs → (q : Question) → showing g q ≡ shown_of model bs q
     showing_reads g bs st AskCounts =
@@ -131,13 +134,6 @@ module _ {R : Type 0} (model : Model R) (laws : Laws model) where
         }
     showing_reads g bs st AskLatest = ap newest st.agrees.latest
     showing_reads g bs st AskRecord = ap recorded st.agrees.made
-
-    pub goes_asked : (g : Gateway F R G) (q : Question) (s : Shown R) → ((bs : List ℕ) → Stands model g.reader bs → s ≡ shown_of model bs q) → Shows model g q s
-    goes_asked g q s is h rep =
-        record { reads = rep.reads; run = subst (λ x. Reached model (state_of g h) (questioned h q x)) (sym (is (pumped h) rep.reads)) (asks rep.run q) }
-
-    pub begins_new : (g : Gateway F R G) → Stands model g.reader [] → slots_of g.bank ≡ new_ports → Represents model g start
-    begins_new g st new = record { reads = st; run = subst (λ ss. Reached model (record { bytes = []; slots = ss }) start) (sym new) begins }
 
     -- what a pump ensures
     abbrev pub Pumped : {L : Type 0} → (L → List ℕ) → (L → ℕ → L → Type 0) → Gateway F R G → L → ℕ → Result ℕ PumpRefusal → Gateway F R G → L → Type 0

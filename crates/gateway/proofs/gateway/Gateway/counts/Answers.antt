@@ -1,8 +1,7 @@
-use Rattle.std.proofs.Common.{ap}
-use Rattle.law.specs.Calls.{AskCounts, counted}
+use Rattle.std.proofs.Common.{rules}
+use Rattle.law.specs.Runs.{pumped}
 use Rattle.gateway.proofs.Running.{goes_asked}
 use Rattle.gateway.proofs.gateway.Gateway.counts.Goals as goal
 
 pub returns : goal.returns
-returns g c =
-    record { shows = goes_asked g.F.Family.model g.F.Family.laws c.args.self.now AskCounts _ (λ bs stands. ap counted (c.counts.ensures.counts bs stands)) }
+returns g c = record { shows = λ h rep. search (rules, goes_asked, c.counts.ensures.counts (pumped h) rep.reads) }

@@ -1,8 +1,7 @@
-use Rattle.std.proofs.Common.{ap}
-use Rattle.law.specs.Calls.{AskRecord, recorded}
+use Rattle.std.proofs.Common.{rules}
+use Rattle.law.specs.Runs.{pumped}
 use Rattle.gateway.proofs.Running.{goes_asked}
 use Rattle.gateway.proofs.gateway.Gateway.record.Goals as goal
 
 pub returns : goal.returns
-returns g c =
-    record { shows = goes_asked g.F.Family.model g.F.Family.laws c.args.self.now AskRecord _ (λ bs stands. ap recorded (c.record.ensures.made bs stands)) }
+returns g c = record { shows = λ h rep. search (rules, goes_asked, c.record.ensures.made (pumped h) rep.reads) }
