@@ -47,8 +47,8 @@ impl<F: Family> Gateway<F> {
     {
         let mut buffer = [0; CHUNK];
         let room = most.min(CHUNK);
-        let k = line.take(&mut buffer[0..room]);
-        let _ = self.reader.feed(&buffer[0..k], &mut self.bank);
+        let k = line.take(&mut buffer[..room]);
+        self.reader.feed(&buffer[..k], &mut self.bank).unwrap();
         k
     }
 
