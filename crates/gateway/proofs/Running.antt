@@ -1,5 +1,5 @@
 -- Each call takes a run one call on.
-use Rattle.std.proofs.Common.{◌≡◌, ℕ, ◌+◌, ◌-◌, ◌^◌, ◌<◌, ◌≤◌, min, ◌⊎◌, List, [], ◌∷◌, ◌++◌, length, take, drop, Ok, Err, Result, sym, refl, ap, ◌∙◌, subst, ⊎_elim, append-nil, arith, length-append}
+use Rattle.std.proofs.Common.{◌≡◌, ℕ, ◌+◌, ◌^◌, ◌<◌, ◌≤◌, min, List, [], ◌∷◌, ◌++◌, length, take, drop, sym, ap, ◌∙◌, subst, append-nil, arith, length-append}
 use lib.Seq.{drop-append_seam}
 use Rattle.reading.specs.declared.family.Family.{Ghosts}
 use Rattle.reading.specs.declared.message.Message.{Message}
@@ -7,7 +7,6 @@ use Rattle.reading.specs.Reading.{Model, Laws, reading}
 use Rattle.reader.specs.Ledgers.{Handed}
 use Rattle.reader.specs.Standing.{Stands, Ran}
 use Rattle.reader.proofs.Feeding.{long}
-use Rattle.line.specs.Steps.{Joins}
 use Rattle.law.specs.Calls.{Pump, At, PortCall, Answer, refused, passed, Question, AskCounts, AskLatest, AskRecord, Shown, counted, newest, recorded, shown_of, messages_of, brought, pump_answer}
 use Rattle.law.specs.Runs.{History, start, called, questioned, pumped, accepted}
 use Rattle.law.specs.Slots.{Slot, published_to, all_published_to, port_answer, port_after, new_ports}
@@ -16,15 +15,10 @@ use Rattle.law.proofs.Follows.{Follows, follows_laws}
 use Rattle.law.proofs.Accounts.{agrees}
 use Rattle.law.proofs.Laws.{pump_law, still}
 use Rattle.ports.specs.declared.bank.Bank.{Bank}
-use Rattle.ports.specs.Answers.{Unchanged}
 use Rattle.ports.specs.Ports.{slots_of, most_missed, Took}
 use Rattle.ports.proofs.Misses.{most_after, most_published}
 use Rattle.gateway.specs.declared.gateway.Gateway.{Gateway}
-use Rattle.gateway.specs.declared.refusal.PumpRefusal.{PumpRefusal}
-use Rattle.gateway.specs.declared.refusal.PumpRefusal.TheVariants.{BadLimit, PastMost}
-use Rattle.gateway.specs.Passing.{Drawn, pump_number, pump_result, passed_by, PumpNames}
 use Rattle.gateway.specs.Standing.{Represents, GoesOn, showing}
-use Rattle.gateway.proofs.Pumping.{Going, going_more, going_dry}
 
 -- A bank that was handed messages has them published to its ports.
 most_all_published : (ss : List Slot) (ms : List Message) → most_missed (all_published_to ss ms) ≤ most_missed ss + length ms
@@ -105,8 +99,8 @@ module _ {R : Type 0} (model : Model R) (laws : Laws model) where
           run = subst (λ ss. Reached model (record { bytes = bs ++ xs; slots = ss }) (called h (Pump limit W) (passed d rest))) slots-are on;
         }
 
-    pub goes_refused : (g : Gateway F R G) (limit : ℕ) (W : List ℕ) (n : ℕ) → refused n ≡ pump_answer g.reader.pumped limit W → GoesOn model g g (Pump limit W) (refused n)
-    goes_refused g limit W n e h rep =
+    pub goes_refused : (g : Gateway F R G) (limit : ℕ) (W : List ℕ) (n : ℕ) (h : History R) → Represents model g h → refused n ≡ pump_answer g.reader.pumped limit W → Represents model g (called h (Pump limit W) (refused n))
+    goes_refused g limit W n h rep e =
         let bs = pumped h in
         let answer-is : refused n ≡ pump_answer (length bs) limit W = e ∙ ap (λ k. pump_answer k limit W) rep.reads.pumped in
         let stays = still model follows (state_of g h) h (Pump limit W) (agrees model follows rep.run) (ap accepted (sym answer-is)) in
@@ -134,73 +128,3 @@ module _ {R : Type 0} (model : Model R) (laws : Laws model) where
         }
     showing_reads g bs st AskLatest = ap newest st.agrees.latest
     showing_reads g bs st AskRecord = ap recorded st.agrees.made
-
-    -- what a pump ensures
-    abbrev pub Pumped : {L : Type 0} → (L → List ℕ) → (L → ℕ → L → Type 0) → Gateway F R G → L → ℕ → Result ℕ PumpRefusal → Gateway F R G → L → Type 0
-    Pumped waiting steps g l limit r g' l' =
-        record {
-          answer : pump_result r (waiting l') ≡ pump_answer g.reader.pumped limit (waiting l);
-          rest : waiting l' ≡ drop (passed_by r) (waiting l);
-          steps : steps l (passed_by r) l';
-          names : PumpNames limit r;
-          refused : Unchanged r g g';
-          line : Unchanged r l l';
-          run : GoesOn model g g' (Pump limit (waiting l)) (pump_result r (waiting l'));
-        }
-
-    module _ {L : Type 0} (waiting : L → List ℕ) (steps : L → ℕ → L → Type 0) (joins : Joins steps) (g : Gateway F R G) (l : L) (limit : ℕ) where
-      refuses : (e : PumpRefusal) → PumpNames limit (Err e) → refused (pump_number e) ≡ pump_answer g.reader.pumped limit (waiting l) → Pumped waiting steps g l limit (Err e) g l
-      refuses e named is =
-          record {
-            answer = is;
-            rest = refl;
-            steps = joins.stays l;
-            names = named;
-            refused = refl;
-            line = refl;
-            run = goes_refused g limit (waiting l) (pump_number e) is;
-          }
-
-      pub refuses_limit : (limit ≡ 0) ⊎ (4096 < limit) → Pumped waiting steps g l limit (Err (BadLimit limit)) g l
-      refuses_limit bad =
-          let law = pump_law g.reader.pumped limit (waiting l) in
-          refuses (BadLimit limit) refl (sym (⊎_elim (λ h. law.no_limit h) (λ h. law.high_limit h) bad))
-
-      pub refuses_room : 0 < limit → limit ≤ 4096 → 2 ^ 40 < g.reader.pumped + limit → Pumped waiting steps g l limit (Err (PastMost limit)) g l
-      refuses_room some most full = refuses (PastMost limit) refl (sym ((pump_law g.reader.pumped limit (waiting l)).no_room some most full))
-
-      passes : (d : ℕ) (g' : Gateway F R G) (l' : L) → 0 < limit → limit ≤ 4096 → g.reader.pumped + limit ≤ 2 ^ 40 → d ≡ min limit (length (waiting l)) →
-          waiting l' ≡ drop d (waiting l) → steps l d l' → Ran model Took g.reader g.bank (take d (waiting l)) g'.reader g'.bank →
-          Pumped waiting steps g l limit (Ok d) g' l'
-      passes d g' l' some most room d-is rest stepped ran =
-          record {
-            answer = ap (passed d) rest ∙ ap (λ n. passed n (drop n (waiting l))) d-is ∙ sym ((pump_law g.reader.pumped limit (waiting l)).passes some most room);
-            rest = rest;
-            steps = stepped;
-            names = tt;
-            refused = tt;
-            line = tt;
-            run = goes_pump g g' limit (waiting l) (waiting l') d some most room d-is rest ran;
-          }
-
-      -- the loop has ended with so many left
-      module _ (left : ℕ) (some : 0 < limit) (most : limit ≤ 4096) (room : g.reader.pumped + limit ≤ 2 ^ 40) where
-        pub passes_going : (g' : Gateway F R G) (l' : L) → Going model Took limit (waiting l) g.reader g.bank left (waiting l') g'.reader g'.bank →
-            steps l (limit - left) l' → limit - left ≡ min limit (length (waiting l)) → (g'' : Gateway F R G) (l'' : L) → g'' ≡ g' → l'' ≡ l' → Pumped waiting steps g l limit (Ok (limit - left)) g'' l''
-        passes_going g' l' going stepped all g'' l'' eg el =
-            subst (λ x. Pumped waiting steps g l limit (Ok (limit - left)) x l'') (sym eg)
-            (subst (λ x. Pumped waiting steps g l limit (Ok (limit - left)) g' x) (sym el)
-            (passes (limit - left) g' l' some most room all going.rest stepped going.ran))
-
-        pub passes_dry : (g₁ : Gateway F R G) (l₁ : L) → Going model Took limit (waiting l) g.reader g.bank left (waiting l₁) g₁.reader g₁.bank → steps l (limit - left) l₁ →
-            0 < left → (k : ℕ) → k ≡ 0 → (g' : Gateway F R G) (l' : L) → Drawn (waiting l₁) left k (waiting l') → g'.reader.pumped ≡ g₁.reader.pumped + k →
-            Ran model Took g₁.reader g₁.bank (take k (waiting l₁)) g'.reader g'.bank →
-            steps l₁ k l' → (g'' : Gateway F R G) (l'' : L) → g'' ≡ g' → l'' ≡ l' → Pumped waiting steps g l limit (Ok (limit - left)) g'' l''
-        passes_dry g₁ l₁ going stepped more k none g' l' drawn grown ran step g'' l'' eg el =
-            let W = waiting l in
-            let on = going_more model Took limit W g.reader g.bank left (waiting l₁) g₁.reader g₁.bank going k (waiting l') g'.reader g'.bank drawn grown ran in
-            let same : left - k ≡ left = omega arith in
-            let count : (limit - left) + k ≡ limit - left = omega arith in
-            passes_going g' l' (subst (λ n. Going model Took limit W g.reader g.bank n (waiting l') g'.reader g'.bank) same on)
-            (subst (λ n. steps l n l') count (joins.joins l l₁ l' (limit - left) k stepped step))
-            (going_dry model Took limit W g.reader g.bank left (waiting l₁) g₁.reader g₁.bank going k (waiting l') none more drawn) g'' l'' eg el
