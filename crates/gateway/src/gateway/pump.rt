@@ -68,6 +68,7 @@ impl<F: Family> Gateway<F> {
         if self.reader.pumped() + limit as u64 > MOST_BYTES {
             return Err(PumpRefusal::PastMost(limit));
         }
+        // The line chooses how many bytes come, so no `for` counts the turns.
         let mut left = limit;
         while left > 0 {
             let k = self.draw(line, left as usize);

@@ -21,6 +21,7 @@ fn index_of(port: u32) -> Option<usize>
     (i < PORTS).then_some(i)
 }
 
+// Each call says in full what it answers, leaves and names: a record of these clauses would need the call, the result and both states, and be no plainer.
 impl Bank {
     // All ports are closed.
     pub fn new() -> Bank

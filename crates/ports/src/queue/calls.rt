@@ -42,6 +42,7 @@ impl Queue {
     }
 
     // Places `message` behind those that wait, if there is room.
+    #[tactic(auto, using(crate::proofs::Rings::push_ring))]
     pub fn push(&mut self, message: Message) -> Result<(), Full>
         ensures room { OkIff result (length (items self.old) < depth) tt }
         ensures after { items self.new ≡ placed depth (items self.old) message }
@@ -56,6 +57,7 @@ impl Queue {
     }
 
     // Takes out the oldest that waits.
+    #[tactic(auto, using(crate::proofs::Rings::rest_ring))]
     pub fn pop(&mut self) -> Option<Message>
         ensures oldest { result ≡ first (items self.old) }
         ensures after { items self.new ≡ rest (items self.old) }
