@@ -1,12 +1,12 @@
 -- The law of a port and of a pump holds of every run, and a refused call, a missed count or a question changes nothing.
-use Rattle.std.proofs.Common.{◌≡◌, ℕ, ◌+◌, ◌<◌, ◌≤◌, min, Bool, true, false, cond, not, ltb, leb, ◌⊎◌, List, [], ◌∷◌, ◌++◌, length, get_or, drop, set, sym, refl, ap, ◌∙◌, subst, inl, inr, append-nil, arith}
+use Rattle.std.proofs.Common.{◌≡◌, ℕ, ◌<◌, ◌≤◌, true, false, cond, not, ltb, ◌⊎◌, List, [], ◌++◌, length, get_or, drop, set, sym, refl, ap, ◌∙◌, subst, inl, inr, append-nil, arith}
 use lib.Seq.{drop-length, set-get_or}
 use Rattle.std.specs.List.{ContainsAt, flat_map, AllByRecursion}
 use Rattle.std.proofs.ByRecursion.{All-weaker, all_has_itself, all_kept_by, kept_by_passes}
-use Rattle.std.proofs.lemmas.Bool.{cond_both, not-true, true≢false, cases_lt, cond-true, cond-false, le-ltb, lt-ltb, le-leb, lt-leb, ne_eqb}
+use Rattle.std.proofs.lemmas.Bool.{not-true, cases_lt, cond-true, cond-false, le-ltb, lt-ltb}
 use Rattle.reading.specs.declared.message.Message.{Message}
 use Rattle.reading.specs.Reading.{Model}
-use Rattle.law.specs.Calls.{Call, Pump, At, PortCall, Open, Take, Missed, Close, Answer, refused, done, passed, gave, told, brought, wantable, limited, most_limit, most_bytes, wants, depth, ports, pump_answer, Question, Shown, shown_of, messages_of}
+use Rattle.law.specs.Calls.{Call, Pump, At, PortCall, Open, Take, Missed, Close, Answer, refused, done, told, brought, wantable, wants, depth, ports, pump_answer, Question, Shown, shown_of, messages_of}
 use Rattle.law.specs.Runs.{History, start, called, questioned, Opening, closed, since, pumped, published, opening, given, came, came_of, given_at, accepted}
 use Rattle.law.specs.Slots.{Slot, shut, opened, overflow, all_published_to, slot_answer, slot_after, port_answer, port_after}
 use Rattle.law.specs.States.{State, answer, after, fresh, Reached, begins, goes, asks}
@@ -20,62 +20,28 @@ use Rattle.law.proofs.Accounts.{Agrees, agrees, Account, is_shut, is_open}
 
 pub pump_law : (n limit : ℕ) (waits : List ℕ) → PumpLaw n limit waits (pump_answer n limit waits)
 pump_law n limit waits = record {
-  no_limit = λ e. ap (λ l. pump_answer n l waits) e;
-  high_limit = λ l. ap (λ b. cond b within (refused 1)) (bad_limit l);
-  no_room = λ l u f. ap (λ b. cond b within (refused 1)) (good_limit l u) ∙ ap (λ b. cond b passes (refused 2)) (lt-leb (n + limit) most_bytes f);
-  passes = λ l u f. ap (λ b. cond b within (refused 1)) (good_limit l u) ∙ ap (λ b. cond b passes (refused 2)) (le-leb (n + limit) most_bytes f);
+  no_limit = λ e. grind (arith, e);
+  high_limit = λ l. grind (arith, l);
+  no_room = λ l u f. grind (arith, l, u, f);
+  passes = λ l u f. grind (arith, l, u, f);
 }
-  where
-    passes : Answer
-    passes = passed (min limit (length waits)) (drop (min limit (length waits)) waits)
-
-    within : Answer
-    within = cond (leb (n + limit) most_bytes) passes (refused 2)
-
-    bad_limit : most_limit < limit → limited limit ≡ false
-    bad_limit l = ap (λ b. cond b false (leb limit most_limit)) (ne_eqb limit 0 (λ e. omega arith)) ∙ lt-leb limit most_limit l
-
-    good_limit : 0 < limit → limit ≤ most_limit → limited limit ≡ true
-    good_limit l u = ap (λ b. cond b false (leb limit most_limit)) (ne_eqb limit 0 (λ e. omega arith)) ∙ le-leb limit most_limit u
 
 -- a message is lost if the port is full
 full : (lost waits : List Message) (m : Message) → lost ≡ lost_when waits m → LostIfFull lost waits m
-full lost waits m e = by (cases_lt (length waits) depth)
-  where
-    by : (length waits < depth) ⊎ (depth ≤ length waits) → LostIfFull lost waits m
-    by (inl few) = inr (e ∙ cond-true (ltb (length waits) depth) [] (m ∷ []) (lt-ltb _ _ few), few)
-    by (inr many) = inl (e ∙ cond-false (ltb (length waits) depth) [] (m ∷ []) (le-ltb _ _ many), many)
+full lost waits m e = grind (arith, e)
 
 -- a refused call changes nothing
-still_open : (w : ℕ) (b : Bool) → accepted (cond b done (refused 6)) ≡ false → cond b (opened w [] 0) shut ≡ shut
-still_open w true e = absurd (true≢false e)
-still_open w false e = refl
-
 still_slot : (s : Slot) (c : PortCall) → accepted (slot_answer s c) ≡ false → slot_after s c ≡ s
-still_slot shut (Open w) e = still_open w (wantable w) e
-still_slot shut Take e = refl
-still_slot shut Missed e = refl
-still_slot shut Close e = refl
-still_slot (opened w ws n) (Open x) e = refl
-still_slot (opened w [] n) Take e = refl
-still_slot (opened w (m ∷ ws) n) Take e = absurd (true≢false e)
-still_slot (opened w ws n) Missed e = refl
-still_slot (opened w ws n) Close e = absurd (true≢false e)
+still_slot s c e = grind (arith, e)
 
 asked_slot : (s : Slot) → slot_after s Missed ≡ s
-asked_slot shut = refl
-asked_slot (opened w ws n) = refl
+asked_slot s = grind arith
 
 pub asked_row : (slots : List Slot) (p : ℕ) → port_after slots p Missed ≡ slots
-asked_row slots p = cond_both (ltb p ports) (set slots p (slot_after (get_or slots p shut) Missed)) slots (λ ss. ss ≡ slots)
-    (λ _. ap (set slots p) (asked_slot (get_or slots p shut)) ∙ set-get_or slots p shut) (λ _. refl)
+asked_row slots p = grind (arith, asked_slot (get_or slots p shut), set-get_or slots p shut)
 
 still_brought : (waits : List ℕ) (a : Answer) → accepted a ≡ false → brought waits a ≡ []
-still_brought waits (refused n) e = refl
-still_brought waits done e = refl
-still_brought waits (passed n rest) e = absurd (true≢false e)
-still_brought waits (gave m) e = refl
-still_brought waits (told n) e = refl
+still_brought waits a e = grind (arith, e)
 
 module _ {R : Type 0} (model : Model R) (follows : Follows model) where
   -- the last call of a run
@@ -121,8 +87,7 @@ module _ {R : Type 0} (model : Model R) (follows : Follows model) where
     Answers s = (c : PortCall) (a : Answer) → Run (called h (At p c) a) → a ≡ slot_answer s c
 
     take_is : (w : ℕ) (ws : List Message) (n : ℕ) → slot_answer (opened w ws n) Take ≡ oldest ws
-    take_is w [] n = refl
-    take_is w (m ∷ ws) n = refl
+    take_is w ws n = grind arith
 
     port_law : {s : Slot} → Account model follows p h s → Answers s → PortLaw model Run h p
     port_law (is_shut o g) at =

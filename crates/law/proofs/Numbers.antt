@@ -1,9 +1,9 @@
 -- Lists of messages in rising number.
-use Rattle.std.proofs.Common.{◌≡◌, ℕ, zero, suc, ◌+◌, ◌<◌, ◌≤◌, Bool, true, false, cond, not, eqb, List, [], ◌∷◌, ◌++◌, length, get_or, drop, filter, refl, ap, ◌∙◌, append-nil, arith}
+use Rattle.std.proofs.Common.{◌≡◌, ℕ, zero, suc, ◌+◌, ◌<◌, ◌≤◌, Bool, true, false, cond, not, List, [], ◌∷◌, ◌++◌, length, get_or, drop, filter, refl, ap, ◌∙◌, append-nil, arith}
 use Rattle.std.specs.List.{AllByRecursion}
 use Rattle.std.proofs.lemmas.List.Elements.{filter-append}
 use Rattle.std.proofs.ByRecursion.{All-weaker, all_kept_by}
-use Rattle.std.proofs.lemmas.Bool.{cond-true, le-ltb, lt-ltb, eq-eqb, ne_eqb}
+use Rattle.std.proofs.lemmas.Bool.{le-ltb, lt-ltb, ne_eqb}
 use Rattle.reading.specs.declared.message.Message.{Message}
 use Rattle.law.specs.Laws.{Rises, among, without, ahead}
 
@@ -25,22 +25,13 @@ among_below n ms below = among_none n ms (All-weaker _ _ (λ x l e. omega arith)
 
 pub among_append : (n : ℕ) (xs ys : List Message) → among n (xs ++ ys) ≡ cond (among n xs) true (among n ys)
 among_append n [] ys = refl
-among_append n (x ∷ xs) ys = by (eqb x.number n) (among_append n xs ys)
-  where
-    by : (b : Bool) → among n (xs ++ ys) ≡ cond (among n xs) true (among n ys)
-        → cond b true (among n (xs ++ ys)) ≡ cond (cond b true (among n xs)) true (among n ys)
-    by true e = refl
-    by false e = e
+among_append n (x ∷ xs) ys = grind (arith, among_append n xs ys)
 
 pub among_head : (m : Message) (ms : List Message) → among m.number (m ∷ ms) ≡ true
-among_head m ms = cond-true (eqb m.number m.number) true (among m.number ms) (eq-eqb _ _ refl)
+among_head m ms = grind arith
 
 pub among_later : (n : ℕ) (m : Message) (ms : List Message) → among n ms ≡ true → among n (m ∷ ms) ≡ true
-among_later n m ms e = by (eqb m.number n)
-  where
-    by : (b : Bool) → cond b true (among n ms) ≡ true
-    by true = refl
-    by false = e
+among_later n m ms e = grind (arith, e)
 
 pub among_itself : (ms : List Message) → AllByRecursion (λ m. among m.number ms ≡ true) ms
 among_itself [] = tt
