@@ -1,11 +1,11 @@
 -- After each call of a run, a port is as the run's history says.
-use Rattle.std.proofs.Common.{◌≡◌, ℕ, ◌+◌, ◌<◌, ◌≤◌, Bool, true, false, cond, eqb, ltb, ◌⊎◌, List, [], ◌∷◌, ◌++◌, length, get_or, drop, set, filter, sym, refl, ap, ◌∙◌, subst, inl, inr, append_assoc, append-nil, arith, length-append, length-drop, length-set, get_or-drop, get_or-set_other, get_or-set_same}
+use Rattle.std.proofs.Common.{◌≡◌, ℕ, ◌+◌, ◌<◌, ◌≤◌, Bool, true, false, cond, ltb, ◌⊎◌, List, [], ◌∷◌, ◌++◌, length, get_or, drop, filter, sym, refl, ap, ◌∙◌, subst, inl, inr, append_assoc, append-nil, arith, length-append, length-drop, length-set, get_or-drop, get_or-set_other, get_or-set_same}
 use lib.Seq.{drop-append_seam, drop-append-le, drop-length}
 use Rattle.std.specs.List.{AllByRecursion}
 use Rattle.std.proofs.lemmas.List.Elements.{filter-append}
 use Rattle.std.proofs.ByRecursion.{All-weaker, all_kept_by, All-drop, all_from_every}
 use Rattle.std.proofs.lemmas.List.{get_or-map, length-map, get_or-replicate}
-use Rattle.std.proofs.lemmas.Bool.{cond_both, cond-true, cond-false, le-ltb, lt-ltb, eq-eqb, ne_eqb, cases_eq}
+use Rattle.std.proofs.lemmas.Bool.{cond-true, lt-ltb, cases_eq}
 use Rattle.reading.specs.declared.message.Message.{Message}
 use Rattle.reading.specs.Reading.{Model}
 use Rattle.law.specs.Calls.{Call, Pump, At, PortCall, Open, Take, Missed, Close, Answer, refused, done, gave, told, brought, wants, depth, ports, wantable, pump_answer, Question, Shown, messages_of}
@@ -27,16 +27,13 @@ get_or_published_to slots (m ∷ ms) p within =
     ∙ ap (λ s. all_arrived s ms) (get_or-map (λ s. arrived s m) slots p shut shut within)
 
 pub after_own : (slots : List Slot) (p : ℕ) (c : PortCall) → p < ports → length slots ≡ ports → get_or (port_after slots p c) p shut ≡ slot_after (get_or slots p shut) c
-after_own slots p c below eight =
-    ap (λ ss. get_or ss p shut) (cond-true (ltb p ports) (set slots p (slot_after (get_or slots p shut) c)) slots (lt-ltb p ports below))
-    ∙ get_or-set_same slots p (slot_after (get_or slots p shut) c) shut (rw eight below)
+after_own slots p c below eight = grind (arith, get_or-set_same slots p (slot_after (get_or slots p shut) c) shut)
 
 pub after_other : (slots : List Slot) (q p : ℕ) (c : PortCall) → (q ≡ p → ⊥) → get_or (port_after slots q c) p shut ≡ get_or slots p shut
-after_other slots q p c ne = cond_both (ltb q ports) (set slots q (slot_after (get_or slots q shut) c)) slots (λ ss. get_or ss p shut ≡ get_or slots p shut)
-    (λ _. get_or-set_other slots q p (slot_after (get_or slots q shut) c) shut (λ e. ne (sym e))) (λ _. refl)
+after_other slots q p c ne = grind (arith, get_or-set_other slots q p (slot_after (get_or slots q shut) c) shut)
 
 length_after : (slots : List Slot) (q : ℕ) (c : PortCall) → length (port_after slots q c) ≡ length slots
-length_after slots q c = cond_both (ltb q ports) (set slots q (slot_after (get_or slots q shut) c)) slots (λ ss. length ss ≡ length slots) (λ _. length-set slots q _) (λ _. refl)
+length_after slots q c = grind (arith, length-set)
 
 module _ {R : Type 0} (model : Model R) (follows : Follows model) where
   -- what a pump brings
@@ -44,7 +41,7 @@ module _ {R : Type 0} (model : Model R) (follows : Follows model) where
       → published model (called h (Pump limit waits) a) ≡ published model h ++ fresh model (pumped h) (brought waits a)
   published_pump h limit waits a =
       let more = follows.grows (pumped h) (brought waits a) in
-      more.1 ∙ ap (λ ms. messages_of model (pumped h) ++ ms) (sym (drop-append_seam (messages_of model (pumped h)) more.0) ∙ ap (drop (length (messages_of model (pumped h)))) (sym more.1))
+      grind (arith, more.1, drop-append_seam (messages_of model (pumped h)) more.0)
 
   pub old_numbers : (h : History R) → AllByRecursion (λ m. m.number ≤ length (published model h)) (published model h)
   old_numbers h = all_from_every (λ m. m.number ≤ length (published model h)) (published model h)
@@ -61,10 +58,10 @@ module _ {R : Type 0} (model : Model R) (follows : Follows model) where
       omega (arith, e))
 
   pub before_old : (h : History R) (c : Call) (a : Answer) (n : ℕ) → n ≤ length (published model h) → before model n (called h c a) ≡ before model n h
-  before_old h c a n old = cond-false (ltb (length (published model h)) n) h (before model n h) (le-ltb _ _ old)
+  before_old h c a n old = grind (arith, old)
 
   pub before_new : (h : History R) (c : Call) (a : Answer) (n : ℕ) → length (published model h) < n → before model n (called h c a) ≡ h
-  before_new h c a n late = cond-true (ltb (length (published model h)) n) h (before model n h) (lt-ltb _ _ late)
+  before_new h c a n late = grind (arith, late)
 
   came_old : (h : History R) (o : Opening) → AllByRecursion (λ m. m.number ≤ length (published model h)) (came_of o (published model h))
   came_old h closed = tt
@@ -121,15 +118,14 @@ module _ {R : Type 0} (model : Model R) (follows : Follows model) where
 
     -- a call of the port itself
     opening_own : (h : History R) (c : PortCall) (a : Answer) → opening model p (called h (At p c) a) ≡ opening_by (length (published model h)) (opening model p h) c a
-    opening_own h c a = cond-true (eqb p p) (opening_by (length (published model h)) (opening model p h) c a) (opening model p h) (eq-eqb p p refl)
+    opening_own h c a = grind arith
 
     given_own : (h : History R) (c : PortCall) (a : Answer) → given p (called h (At p c) a) ≡ given_by (given p h) c a
-    given_own h c a = cond-true (eqb p p) (given_by (given p h) c a) (given p h) (eq-eqb p p refl)
+    given_own h c a = grind arith
 
     came_none : (h : History R) (n w : ℕ) → opening model p h ≡ since n w → n ≡ length (published model h) → came model p h ≡ []
     came_none h n w o e =
-        ap (λ x. came_of x (published model h)) o
-        ∙ ap (λ k. filter (wants w) (drop k (published model h))) e ∙ ap (filter (wants w)) (drop-length (published model h))
+        grind (arith, o, e, drop-length (published model h))
 
     opens : (h : History R) (w : ℕ) (b : Bool) → Account h shut → Account (called h (At p (Open w)) (cond b done (refused 6))) (cond b (opened w [] 0) shut)
     opens h w true account =
@@ -169,10 +165,7 @@ module _ {R : Type 0} (model : Model R) (follows : Follows model) where
 
     -- a call of another port
     other : (h : History R) {s : Slot} (q : ℕ) (c : PortCall) (a : Answer) → (q ≡ p → ⊥) → Account h s → Account (called h (At q c) a) s
-    other h q c a ne account = quiet h (At q c) a refl
-        (cond-false (eqb q p) (opening_by (length (published model h)) (opening model p h) c a) (opening model p h) (ne_eqb q p ne))
-        (cond-false (eqb q p) (given_by (given p h) c a) (given p h) (ne_eqb q p ne))
-        account
+    other h q c a ne account = quiet h (At q c) a refl (grind (arith, ne)) (grind (arith, ne)) account
 
     -- a pump
     pumps : (h : History R) {s : Slot} (limit : ℕ) (waits : List ℕ) (a : Answer) → Account h s

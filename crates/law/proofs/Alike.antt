@@ -1,8 +1,8 @@
 -- A port's answers are a function of its calls, each with the bytes pumped before it.
-use Rattle.std.proofs.Common.{◌≡◌, ℕ, ◌<◌, ◌≤◌, cond, eqb, ltb, ◌⊎◌, List, [], ◌∷◌, ◌++◌, length, get_or, drop, sym, refl, ap, ◌∙◌, subst, inl, inr, arith, length-append}
+use Rattle.std.proofs.Common.{◌≡◌, ℕ, ◌<◌, ◌≤◌, cond, ltb, ◌⊎◌, List, [], ◌∷◌, ◌++◌, length, get_or, drop, sym, refl, ap, ◌∙◌, subst, inl, inr, arith, length-append}
 use lib.Seq.{drop-append-le, drop-length}
 use Rattle.std.proofs.lemmas.List.{get_or-replicate}
-use Rattle.std.proofs.lemmas.Bool.{cond-true, cond-false, le-ltb, eq-eqb, ne_eqb, cases_eq, cases_lt}
+use Rattle.std.proofs.lemmas.Bool.{cases_eq, cases_lt}
 use Rattle.reading.specs.declared.message.Message.{Message}
 use Rattle.reading.specs.Reading.{Model}
 use Rattle.law.specs.Calls.{Call, Pump, At, PortCall, Answer, refused, brought, ports, pump_answer, messages_of}
@@ -73,8 +73,8 @@ module _ {R : Type 0} (model : Model R) (follows : Follows model) where
         → Replays (after model g (At p c)) (called h (At p c) (answer model g (At p c)))
     replays_own g h c agree before =
         let h' = called h (At p c) (port_answer g.slots p c) in
-        let one : asked p h' ≡ (c, pumped h) ∷ asked p h = cond-true (eqb p p) ((c, pumped h) ∷ asked p h) (asked p h) (eq-eqb p p refl) in
-        let two : answered p h' ≡ port_answer g.slots p c ∷ answered p h = cond-true (eqb p p) (port_answer g.slots p c ∷ answered p h) (answered p h) (eq-eqb p p refl) in
+        let one : asked p h' ≡ (c, pumped h) ∷ asked p h = grind arith in
+        let two : answered p h' ≡ port_answer g.slots p c ∷ answered p h = grind arith in
         let next = replay ((c, pumped h) ∷ asked p h) in
         record {
           earlier = subst (λ cs. (replay cs).count ≤ length (published model h)) (sym one) (omega arith);
@@ -88,14 +88,14 @@ module _ {R : Type 0} (model : Model R) (follows : Follows model) where
         }
       where
         by : (p < ports) ⊎ (ports ≤ p) → port_answer g.slots p c ≡ cond (ltb p ports) (slot_answer (at_bytes (replay (asked p h)) (pumped h)) c) (refused 4)
-        by (inl below) = ap (λ s. cond (ltb p ports) (slot_answer s c) (refused 4)) (before.slot_is below)
-        by (inr above) = cond-false (ltb p ports) _ (refused 4) (le-ltb p ports above) ∙ sym (cond-false (ltb p ports) _ (refused 4) (le-ltb p ports above))
+        by (inl below) = grind (arith, before.slot_is below)
+        by (inr above) = grind (arith, above)
 
     replays_other : (g : State) (h : History R) (q : ℕ) (c : PortCall) (a : Answer) → (q ≡ p → ⊥) → Replays g h
         → Replays (after model g (At q c)) (called h (At q c) a)
     replays_other g h q c a ne before =
-        let one : asked p (called h (At q c) a) ≡ asked p h = cond-false (eqb q p) ((c, pumped h) ∷ asked p h) (asked p h) (ne_eqb q p ne) in
-        let two : answered p (called h (At q c) a) ≡ answered p h = cond-false (eqb q p) (a ∷ answered p h) (answered p h) (ne_eqb q p ne) in
+        let one : asked p (called h (At q c) a) ≡ asked p h = grind (arith, ne) in
+        let two : answered p (called h (At q c) a) ≡ answered p h = grind (arith, ne) in
         record {
           earlier = subst (λ cs. (replay cs).count ≤ length (published model h)) (sym one) before.earlier;
           slot_is = λ below.

@@ -1,9 +1,9 @@
 -- The law of a port and of a pump holds of every run, and a refused call, a missed count or a question changes nothing.
-use Rattle.std.proofs.Common.{◌≡◌, ℕ, ◌<◌, ◌≤◌, true, false, cond, not, ltb, ◌⊎◌, List, [], ◌++◌, length, get_or, drop, set, sym, refl, ap, ◌∙◌, subst, inl, inr, append-nil, arith}
+use Rattle.std.proofs.Common.{◌≡◌, ℕ, ◌<◌, ◌≤◌, true, false, cond, not, ◌⊎◌, List, [], ◌++◌, length, get_or, drop, sym, refl, ap, ◌∙◌, subst, inl, inr, append-nil, arith}
 use lib.Seq.{drop-length, set-get_or}
 use Rattle.std.specs.List.{ContainsAt, flat_map, AllByRecursion}
 use Rattle.std.proofs.ByRecursion.{All-weaker, all_has_itself, all_kept_by, kept_by_passes}
-use Rattle.std.proofs.lemmas.Bool.{not-true, cases_lt, cond-true, cond-false, le-ltb, lt-ltb}
+use Rattle.std.proofs.lemmas.Bool.{not-true, cases_lt}
 use Rattle.reading.specs.declared.message.Message.{Message}
 use Rattle.reading.specs.Reading.{Model}
 use Rattle.law.specs.Calls.{Call, Pump, At, PortCall, Open, Take, Missed, Close, Answer, refused, done, told, brought, wantable, wants, depth, ports, pump_answer, Question, Shown, shown_of, messages_of}
@@ -78,9 +78,7 @@ module _ {R : Type 0} (model : Model R) (follows : Follows model) where
       → Reachable (called h (At p c) a) → a ≡ slot_answer s c
   answer_at h p c a s g below r is run =
       let one = last run.1 in
-      one.3 ∙ ap (λ g. port_answer g.slots p c) (only h one.1 r)
-      ∙ cond-true (ltb p ports) (slot_answer (get_or g.slots p shut) c) (refused 4) (lt-ltb p ports below)
-      ∙ ap (λ s. slot_answer s c) is
+      one.3 ∙ ap (λ g. port_answer g.slots p c) (only h one.1 r) ∙ grind (arith, below, is)
 
   module _ (Run : History R → Type 0) (real : (h : History R) → Run h → Reachable h) (h : History R) (p : ℕ) where
     abbrev Answers : Slot → Type 0
@@ -159,11 +157,8 @@ module _ {R : Type 0} (model : Model R) (follows : Follows model) where
   still g h (At p c) agree e = ap (λ ss. record { bytes = g.bytes; slots = ss }) (by (cases_lt p ports))
     where
       by : (p < ports) ⊎ (ports ≤ p) → port_after g.slots p c ≡ g.slots
-      by (inl below) =
-          let s = get_or g.slots p shut in
-          cond-true (ltb p ports) (set g.slots p (slot_after s c)) g.slots (lt-ltb p ports below)
-          ∙ ap (set g.slots p) (still_slot s c (ap accepted (sym (cond-true (ltb p ports) (slot_answer s c) (refused 4) (lt-ltb p ports below))) ∙ e)) ∙ set-get_or g.slots p shut
-      by (inr above) = cond-false (ltb p ports) _ g.slots (le-ltb p ports above)
+      by (inl below) = grind (arith, e, still_slot (get_or g.slots p shut) c, set-get_or g.slots p shut)
+      by (inr above) = grind (arith, above)
 
   pub pump_answers : (h : History R) (limit : ℕ) (waits : List ℕ) (a : Answer) → Reachable (called h (Pump limit waits) a) → PumpLaw (length (pumped h)) limit waits a
   pump_answers h limit waits a run =
@@ -185,7 +180,7 @@ module _ {R : Type 0} (model : Model R) (follows : Follows model) where
   pub no_port : (h : History R) (p : ℕ) (c : PortCall) (a : Answer) → ports ≤ p → Reachable (called h (At p c) a) → a ≡ refused 4
   no_port h p c a above run =
       let one = last run.1 in
-      one.3 ∙ cond-false (ltb p ports) _ (refused 4) (le-ltb p ports above)
+      one.3 ∙ grind (arith, above)
 
   pub refused_still : (h : History R) (g₁ g₂ : State) (c : Call) (n : ℕ) → Reached model g₁ h → Reached model g₂ (called h c (refused n)) → g₂ ≡ g₁
   refused_still h g₁ g₂ c n r₁ r₂ =

@@ -1,8 +1,7 @@
 -- A walk over the messages that came to a port, oldest first: what it holds and misses on the way.
-use Rattle.std.proofs.Common.{◌≡◌, ℕ, ◌+◌, ◌≤◌, Bool, true, false, ltb, List, [], ◌∷◌, ◌++◌, length, drop, filter, sym, refl, ap, ◌∙◌, subst, append_assoc, add-zero, add_assoc, arith, length-append}
+use Rattle.std.proofs.Common.{◌≡◌, ℕ, ◌+◌, ◌≤◌, Bool, true, false, List, [], ◌∷◌, ◌++◌, length, drop, filter, sym, refl, ap, ◌∙◌, subst, append_assoc, add-zero, add_assoc, arith, length-append}
 use lib.Seq.{drop-append_seam}
 use Rattle.std.specs.List.{AllByRecursion}
-use Rattle.std.proofs.lemmas.Bool.{cond_both, ltb-true}
 use Rattle.reading.specs.declared.message.Message.{Message}
 use Rattle.reading.specs.Reading.{Model}
 use Rattle.law.specs.Calls.{wants, depth}
@@ -107,8 +106,7 @@ module _ (π : Policy) where
   )
 
 pub placed_room : (room : ℕ) (ws : List Message) (m : Message) → length ws ≤ room → length (placed room ws m) ≤ room
-placed_room room ws m few = cond_both (ltb (length ws) room) (ws ++ m ∷ []) ws (λ xs. length xs ≤ room)
-    (λ t. let l = ltb-true (length ws) room t in rw length-append (omega arith)) (λ _. few)
+placed_room room ws m few = grind (arith, few, length-append ws (m ∷ []))
 
 -- What comes to an open port while nothing is given.
 pub record Come (F : Message → List Message) (wanted : ℕ) (gs ws : List Message) (count : ℕ) (ms : List Message) : Type 0 where
