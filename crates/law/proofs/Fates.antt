@@ -1,9 +1,9 @@
 -- What the walk over the messages that came says of each of them, whatever the port's policy.
-use Rattle.std.proofs.Common.{◌≡◌, ◌<◌, Bool, true, false, cond, not, eqb, ◌⊎◌, List, [], ◌∷◌, ◌++◌, filter, sym, refl, ap, ◌∙◌, subst, inl, inr, append_assoc, append-nil}
+use Rattle.std.proofs.Common.{◌≡◌, ◌<◌, Bool, true, false, cond, not, ◌⊎◌, List, [], ◌∷◌, ◌++◌, filter, sym, refl, ap, ◌∙◌, subst, inl, inr, append_assoc, append-nil, arith}
 use Rattle.std.specs.List.{ContainsAt, flat_map, AllByRecursion}
 use Rattle.std.proofs.lemmas.List.Elements.{filter-append}
 use Rattle.std.proofs.ByRecursion.{All-weaker, all_kept_by, All-append, kept_by_passes, all-has, all_has_itself, has_append_left, has_append_right, has_push}
-use Rattle.std.proofs.lemmas.Bool.{not-true, true≢false, cond-false, ne_eqb, cases_eq}
+use Rattle.std.proofs.lemmas.Bool.{not-true, true≢false, cases_eq}
 use Rattle.reading.specs.declared.message.Message.{Message}
 use Rattle.law.specs.Laws.{Rises, Apart, among, without, ahead, waiting_when}
 use Rattle.law.proofs.Numbers.{among_none, among_above, among_below, among_append, among_itself, without_none, without_front, parted, ahead_front, rises_kept, all_parts, all_both, rises_same}
@@ -17,14 +17,7 @@ pub record Fair (π : Policy) : Type 0 where
 
 pub without_twice : (ms xs ys : List Message) → without ms (xs ++ ys) ≡ without (without ms xs) ys
 without_twice [] xs ys = refl
-without_twice (m ∷ ms) xs ys =
-    ap (λ b. cond (not b) (m ∷ without ms (xs ++ ys)) (without ms (xs ++ ys))) (among_append m.number xs ys)
-    ∙ by (among m.number xs) (without_twice ms xs ys)
-  where
-    by : (b : Bool) → without ms (xs ++ ys) ≡ without (without ms xs) ys
-        → cond (not (cond b true (among m.number ys))) (m ∷ without ms (xs ++ ys)) (without ms (xs ++ ys)) ≡ without (cond (not b) (m ∷ without ms xs) (without ms xs)) ys
-    by true e = e
-    by false e = ap (λ ws. cond (not (among m.number ys)) (m ∷ ws) ws) e
+without_twice (m ∷ ms) xs ys = grind (arith, among_append m.number xs ys, without_twice ms xs ys)
 
 pub without_nothing : (ms : List Message) → without ms [] ≡ ms
 without_nothing [] = refl
@@ -33,7 +26,7 @@ without_nothing (m ∷ ms) = ap (λ xs. m ∷ xs) (without_nothing ms)
 pub apart_append : (xs ys : List Message) → Apart xs → Apart ys → AllByRecursion (λ x. among x.number ys ≡ false) xs → Apart (xs ++ ys)
 apart_append [] ys ax ay none = ay
 apart_append (x ∷ xs) ys ax ay none =
-    (among_append x.number xs ys ∙ ap (λ b. cond b true (among x.number ys)) ax.0 ∙ none.0, apart_append xs ys ax.1 ay none.1)
+    (grind (arith, among_append x.number xs ys, ax.0, none.0), apart_append xs ys ax.1 ay none.1)
 
 module _ (π : Policy) (fair : Fair π) (F : Message → List Message) where
   -- one message
@@ -174,7 +167,7 @@ module _ (lose : List Message → Message → List Message) (F : Message → Lis
 
   joined_same : (ms : List Message) → AllByRecursion (λ m. one m ≡ two m) ms → flat_map one ms ≡ flat_map two ms
   joined_same [] same = refl
-  joined_same (m ∷ ms) same = ap (λ xs. xs ++ flat_map one ms) same.0 ∙ ap (λ xs. two m ++ xs) (joined_same ms same.1)
+  joined_same (m ∷ ms) same = grind (arith, same.0, joined_same ms same.1)
 
   unique_from : (past ms : List Message) → Rises (past ++ ms) → AllByRecursion (λ m. one m ≡ two m) past
       → AllByRecursion (AccountsFor one (past ++ ms)) ms → AllByRecursion (AccountsFor two (past ++ ms)) ms → AllByRecursion (λ m. one m ≡ two m) ms
@@ -210,7 +203,7 @@ has_among m (x ∷ ms) same e = by (has_among m ms same.1) (cases_eq x.number m.
   where
     by : (among m.number ms ≡ true → ContainsAt ms m) → (x.number ≡ m.number) ⊎ (x.number ≡ m.number → ⊥) → ContainsAt (x ∷ ms) m
     by rest (inl is) = subst (ContainsAt (x ∷ ms)) (same.0 is) (has_append_left (x ∷ []) ms x (has_push [] x))
-    by rest (inr ne) = has_append_right (x ∷ []) ms m (rest (sym (cond-false (eqb x.number m.number) true (among m.number ms) (ne_eqb _ _ ne)) ∙ e))
+    by rest (inr ne) = has_append_right (x ∷ []) ms m (rest (grind (arith, ne, e)))
 
 module _ (came missed given waiting : List Message) where
   abbrev Fate : Message → Type 0

@@ -3,7 +3,7 @@ use Rattle.std.proofs.Common.{◌≡◌, ℕ, zero, suc, ◌+◌, ◌<◌, ◌�
 use Rattle.std.specs.List.{AllByRecursion}
 use Rattle.std.proofs.lemmas.List.Elements.{filter-append}
 use Rattle.std.proofs.ByRecursion.{All-weaker, all_kept_by}
-use Rattle.std.proofs.lemmas.Bool.{le-ltb, lt-ltb, ne_eqb}
+use Rattle.std.proofs.lemmas.Bool.{le-ltb, lt-ltb}
 use Rattle.reading.specs.declared.message.Message.{Message}
 use Rattle.law.specs.Laws.{Rises, among, without, ahead}
 
@@ -15,7 +15,7 @@ Below n ms = AllByRecursion (λ x. x.number < n) ms
 
 pub among_none : (n : ℕ) (ms : List Message) → AllByRecursion (λ x. x.number ≡ n → ⊥) ms → among n ms ≡ false
 among_none n [] none = refl
-among_none n (m ∷ ms) none = rw (ne_eqb m.number n none.0) (among_none n ms none.1)
+among_none n (m ∷ ms) none = grind (arith, none.0, among_none n ms none.1)
 
 pub among_above : (n : ℕ) (ms : List Message) → Above n ms → among n ms ≡ false
 among_above n ms above = among_none n ms (All-weaker _ _ (λ x l e. omega arith) ms above)
@@ -84,11 +84,7 @@ parted (x ∷ xs) ys r =
 
 pub rises_kept : (t : Message → Bool) (ms : List Message) → Rises ms → Rises (filter t ms)
 rises_kept t [] r = tt
-rises_kept t (m ∷ ms) r = by (t m) (rises_kept t ms r.1)
-  where
-    by : (b : Bool) → Rises (filter t ms) → Rises (cond b (m ∷ filter t ms) (filter t ms))
-    by true rest = (all_kept_by t _ ms r.0, rest)
-    by false rest = rest
+rises_kept t (m ∷ ms) r = grind (arith, all_kept_by t (λ x. m.number < x.number) ms r.0, rises_kept t ms r.1)
 
 pub rises_drop : (n : ℕ) (ms : List Message) → Rises ms → Rises (drop n ms)
 rises_drop zero ms r = r

@@ -45,13 +45,12 @@ module _ (π : Policy) where
   pub held_same : (F G : Message → List Message) (held ms : List Message) → AllByRecursion (λ m. F m ≡ G m) ms → held_among π F held ms ≡ held_among π G held ms
   held_same F G held [] same = refl
   held_same F G held (m ∷ ms) same =
-      ap (λ gs. held_among π F (held_with π gs held m) ms) same.0 ∙ held_same F G (held_with π (G m) held m) ms same.1
+      grind (arith, same.0, held_same F G (held_with π (G m) held m) ms same.1)
 
   pub missed_same : (F G : Message → List Message) (held ms : List Message) → AllByRecursion (λ m. F m ≡ G m) ms → missed_among π F held ms ≡ missed_among π G held ms
   missed_same F G held [] same = refl
   missed_same F G held (m ∷ ms) same =
-      ap (λ gs. missed_with π gs held m ++ missed_among π F (held_with π gs held m) ms) same.0
-      ∙ ap (λ rest. missed_with π (G m) held m ++ rest) (missed_same F G (held_with π (G m) held m) ms same.1)
+      grind (arith, same.0, missed_same F G (held_with π (G m) held m) ms same.1)
 
   pub held_append : (F : Message → List Message) (held ms ns : List Message) → held_among π F held (ms ++ ns) ≡ held_among π F (held_among π F held ms) ns
   held_append F held [] ns = refl
@@ -60,8 +59,7 @@ module _ (π : Policy) where
   pub missed_append : (F : Message → List Message) (held ms ns : List Message) → missed_among π F held (ms ++ ns) ≡ missed_among π F held ms ++ missed_among π F (held_among π F held ms) ns
   missed_append F held [] ns = refl
   missed_append F held (m ∷ ms) ns =
-      ap (λ rest. missed_with π (F m) held m ++ rest) (missed_append F (held_with π (F m) held m) ms ns)
-      ∙ sym (append_assoc (missed_with π (F m) held m) _ _)
+      grind (arith, missed_append F (held_with π (F m) held m) ms ns, append_assoc)
 
   -- the queue behind what was given
   pub held_placed : (gs ws : List Message) (m : Message) → held_with π gs (gs ++ ws) m ≡ gs ++ π.place ws m
@@ -73,14 +71,12 @@ module _ (π : Policy) where
   pub held_step : (F : Message → List Message) (gs ws : List Message) (m : Message) (ms : List Message) → F m ≡ gs
       → held_among π F (gs ++ ws) (m ∷ ms) ≡ held_among π F (gs ++ π.place ws m) ms
   held_step F gs ws m ms at =
-      ap (λ x. held_among π F (held_with π x (gs ++ ws) m) ms) at ∙ ap (λ x. held_among π F x ms) (held_placed gs ws m)
+      grind (arith, at, held_placed gs ws m)
 
   pub missed_step : (F : Message → List Message) (gs ws : List Message) (m : Message) (ms : List Message) → F m ≡ gs
       → missed_among π F (gs ++ ws) (m ∷ ms) ≡ π.lose ws m ++ missed_among π F (gs ++ π.place ws m) ms
   missed_step F gs ws m ms at =
-      ap (λ x. missed_with π x (gs ++ ws) m ++ missed_among π F (held_with π x (gs ++ ws) m) ms) at
-      ∙ ap (λ x. x ++ missed_among π F (held_with π gs (gs ++ ws) m) ms) (missed_overflow gs ws m)
-      ∙ ap (λ x. π.lose ws m ++ missed_among π F x ms) (held_placed gs ws m)
+      grind (arith, at, missed_overflow gs ws m, held_placed gs ws m)
 
   -- At each message's coming, what the port had given is the front of what it held.
   abbrev pub Along : (given_at : Message → List Message) (held came : List Message) → Type 0
