@@ -82,17 +82,13 @@ module _ {R : Type 0} (model : Model R) (follows : Follows model) where
         → held model p (called h c a) ≡ held model p h
     held_at h c a ps e =
         let F = given_at model p (called h c a) in
-        ap (λ o. held_among base F [] (came_of o (published model (called h c a)))) e
-        ∙ ap (λ ms. held_among base F [] (came_of (opening model p h) ms)) ps
-        ∙ held_same base F (given_at model p h) [] (came model p h) (given_old h c a (opening model p h))
+        grind (arith, e, ps, held_same base F (given_at model p h) [] (came model p h) (given_old h c a (opening model p h)))
 
     missed_at : (h : History R) (c : Call) (a : Answer) → published model (called h c a) ≡ published model h → opening model p (called h c a) ≡ opening model p h
         → missed model p (called h c a) ≡ missed model p h
     missed_at h c a ps e =
         let F = given_at model p (called h c a) in
-        ap (λ o. missed_among base F [] (came_of o (published model (called h c a)))) e
-        ∙ ap (λ ms. missed_among base F [] (came_of (opening model p h) ms)) ps
-        ∙ missed_same base F (given_at model p h) [] (came model p h) (given_old h c a (opening model p h))
+        grind (arith, e, ps, missed_same base F (given_at model p h) [] (came model p h) (given_old h c a (opening model p h)))
 
     along_at : (h : History R) (c : Call) (a : Answer) → published model (called h c a) ≡ published model h → opening model p (called h c a) ≡ opening model p h
         → Along base (given_at model p h) [] (came model p h) → Along base (given_at model p (called h c a)) [] (came model p (called h c a))
@@ -183,22 +179,17 @@ module _ {R : Type 0} (model : Model R) (follows : Follows model) where
         let old : List Message = came model p h in
         let old-is : old ≡ filter (wants w) (drop n (published model h)) = ap (λ x. came_of x (published model h)) o in
         let came-is : came model p h' ≡ old ++ filter (wants w) news =
-        ap (λ x. came_of x (published model h')) o ∙ ap (λ ms. filter (wants w) (drop n ms)) pub-is
-        ∙ ap (filter (wants w)) (drop-append-le n (published model h) news le) ∙ filter-append (wants w) (drop n (published model h)) news
-        ∙ ap (λ ms. ms ++ filter (wants w) news) (sym old-is) in
+        grind (arith, o, pub-is, drop-append-le n (published model h) news le, filter-append (wants w) (drop n (published model h)) news, old-is) in
         let same = given_old h (Pump limit waits) a (opening model p h) in
         let held-old : held_among base F [] old ≡ given p h ++ ws = held_same base F (given_at model p h) [] old same ∙ eq in
         let missed-old : missed_among base F [] old ≡ missed model p h = missed_same base F (given_at model p h) [] old same in
         let held_new : held model p h' ≡ given p h ++ r.waits =
-        ap (held_among base F []) came-is ∙ held_append base F [] old (filter (wants w) news)
-        ∙ ap (λ x. held_among base F x (filter (wants w) news)) held-old ∙ r.held in
+        grind (arith, came-is, held_append base F [] old (filter (wants w) news), held-old, r.held) in
         let missed-new : missed model p h' ≡ missed model p h ++ missed_among base F (given p h ++ ws) (filter (wants w) news) =
-        ap (missed_among base F []) came-is ∙ missed_append base F [] old (filter (wants w) news)
-        ∙ ap (λ x. missed_among base F [] old ++ missed_among base F x (filter (wants w) news)) held-old
-        ∙ ap (λ x. x ++ missed_among base F (given p h ++ ws) (filter (wants w) news)) missed-old in
+        grind (arith, came-is, missed_append base F [] old (filter (wants w) news), held-old, missed-old) in
         subst (Account h') (sym r.slot)
         (is_open n w r.waits r.misses o (rw pub-is (rw length-append (omega arith))) held_new
-        (r.missed ∙ ap (λ k. k + length (missed_among base F (given p h ++ ws) (filter (wants w) news))) cnt ∙ sym (length-append (missed model p h) _) ∙ ap length (sym missed-new))
+        (grind (arith, r.missed, cnt, length-append, missed-new))
         (subst (Along base F []) (sym came-is)
         (along_append base F [] old (filter (wants w) news) (along_same base F (given_at model p h) [] old same al)
         (subst (λ x. Along base F x (filter (wants w) news)) (sym held-old) (along_still base F (given p h) ws _ (all_kept_by (wants w) _ news late)))))

@@ -60,12 +60,16 @@ module _ {R : Type 0} (model : Model R) (follows : Follows model) where
         record {
           earlier = rw pub-is (rw length-append (omega (arith, before.earlier)));
           slot_is = λ below.
-              get_or_published_to g.slots (fresh model g.bytes more) p (rw agree.eight below)
-              ∙ ap (λ bs. all_arrived (get_or g.slots p shut) (fresh model bs more)) agree.bytes_are
-              ∙ ap (λ s. all_arrived s (fresh model (pumped h) more)) (before.slot_is below)
-              ∙ sym (arrived_append r.slot (drop r.count (published model h)) (fresh model (pumped h) more))
-              ∙ ap (all_arrived r.slot) (sym (drop-append-le r.count (published model h) (fresh model (pumped h) more) before.earlier))
-              ∙ ap (λ ms. all_arrived r.slot (drop r.count ms)) (sym pub-is);
+              let new = fresh model (pumped h) more in
+              grind (
+                arith,
+                get_or_published_to g.slots (fresh model g.bytes more) p (rw agree.eight below),
+                agree.bytes_are,
+                before.slot_is below,
+                arrived_append r.slot (drop r.count (published model h)) new,
+                drop-append-le r.count (published model h) new before.earlier,
+                pub-is,
+              );
           answers_are = before.answers_are;
         }
 
@@ -83,8 +87,7 @@ module _ {R : Type 0} (model : Model R) (follows : Follows model) where
               ∙ ap (λ s. slot_after s c) (before.slot_is below)
               ∙ ap (all_arrived next.slot) (sym (drop-length (published model h)))
               ∙ ap (λ cs. at_bytes (replay cs) (pumped h)) (sym one);
-          answers_are = two ∙ ap (λ more. port_answer g.slots p c ∷ more) before.answers_are
-              ∙ ap (λ a. a ∷ answers (asked p h)) (by (cases_lt p ports)) ∙ ap answers (sym one);
+          answers_are = grind (arith, one, two, before.answers_are, by (cases_lt p ports));
         }
       where
         by : (p < ports) ⊎ (ports ≤ p) → port_answer g.slots p c ≡ cond (ltb p ports) (slot_answer (at_bytes (replay (asked p h)) (pumped h)) c) (refused 4)
@@ -100,7 +103,7 @@ module _ {R : Type 0} (model : Model R) (follows : Follows model) where
           earlier = subst (λ cs. (replay cs).count ≤ length (published model h)) (sym one) before.earlier;
           slot_is = λ below.
               after_other g.slots q p c ne ∙ before.slot_is below ∙ ap (λ cs. at_bytes (replay cs) (pumped h)) (sym one);
-          answers_are = two ∙ before.answers_are ∙ ap answers (sym one);
+          answers_are = grind (arith, one, two, before.answers_are);
         }
 
     replays_step : (g : State) (h : History R) (c : Call) → Agrees model follows g h → Replays g h → Replays (after model g c) (called h c (answer model g c))

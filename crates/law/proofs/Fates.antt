@@ -54,16 +54,12 @@ module _ (π : Policy) (fair : Fair π) (F : Message → List Message) where
       without_none ms (π.lose ws m) (All-weaker _ _ (λ y below.
       among_below y.number (π.lose ws m) (All-weaker (ContainsAt (done ++ m ∷ [])) (λ x. x.number < y.number) (λ x has. all-has (λ z. z.number < y.number) (done ++ m ∷ []) x below has) (π.lose ws m) inside)) ms ends.under) in
       let next-is : held_with π gs done m ≡ without (done ++ m ∷ []) (π.lose ws m) =
-      ap (λ xs. held_with π gs xs m) split ∙ held_placed π gs ws m ∙ ap (λ xs. gs ++ xs) (fair.rest ws m fronts.back)
-      ∙ ap (λ xs. xs ++ without (ws ++ m ∷ []) (π.lose ws m)) (sym given-safe) ∙ sym (filter-append _ gs (ws ++ m ∷ []))
-      ∙ ap (λ xs. without xs (π.lose ws m)) (sym front-is) in
+      grind (arith, split, held_placed π gs ws m, fair.rest ws m fronts.back, given-safe, filter-append (λ x. not (among x.number (π.lose ws m))) gs (ws ++ m ∷ []), front-is) in
       record {
         lost_in = subst (AllByRecursion (ContainsAt (done ++ m ∷ []))) (sym lost-is) inside;
         lost_once = subst Apart (sym lost-is) (fair.once ws m);
         after =
-            ap (λ xs. xs ++ ms) next-is ∙ ap (λ xs. without (done ++ m ∷ []) (π.lose ws m) ++ xs) (sym later-safe)
-            ∙ sym (filter-append _ (done ++ m ∷ []) ms) ∙ ap (λ xs. without xs (π.lose ws m)) (append_assoc done (m ∷ []) ms)
-            ∙ ap (without (done ++ m ∷ ms)) (sym lost-is);
+            grind (arith, next-is, later-safe, filter-append (λ x. not (among x.number (π.lose ws m))) (done ++ m ∷ []) ms, append_assoc done (m ∷ []) ms, lost-is);
       }
 
   step_rises : (done : List Message) (m : Message) (ms : List Message) → Step done m ms → Rises (done ++ m ∷ ms) → Rises (held_with π (F m) done m ++ ms)
@@ -143,11 +139,8 @@ module _ (π : Policy) (fair : Fair π) (F : Message → List Message) where
       let held-is : held ≡ without past (missed_among π F [] past) = held_rest [] past front als.0 in
       let held-rises : Rises (F m ++ ws) = subst Rises (sym held-is ∙ split) (rises_kept _ past front) in
       let waits-are : waiting_when (lost_of all) all (F m) m ≡ ws =
-      ap (λ xs. without (without xs (flat_map (lost_of all) xs)) (F m)) ahead-is
-      ∙ ap (λ xs. without (without past xs) (F m)) (lost_joined [] past (m ∷ ms) r)
-      ∙ ap (λ xs. without xs (F m)) (sym held-is ∙ split) ∙ without_front (F m) ws held-rises in
-      ap (λ xs. missed_with π (F m) (held_among π F [] xs) m) ahead-is ∙ ap (λ xs. missed_with π (F m) xs m) split
-      ∙ missed_overflow π (F m) ws m ∙ ap (λ xs. π.lose xs m) (sym waits-are)
+      grind (arith, ahead-is, lost_joined [] past (m ∷ ms) r, held-is, split, without_front (F m) ws held-rises) in
+      grind (arith, ahead-is, split, missed_overflow π (F m) ws m, waits-are)
 
   met : (past ms : List Message) → Rises (past ++ ms) → Along π F [] (past ++ ms) → AllByRecursion (Met (past ++ ms)) ms
   met past [] r al = tt
@@ -176,9 +169,7 @@ module _ (lose : List Message → Message → List Message) (F : Message → Lis
       let all = past ++ m ∷ ms in
       let assoc : (past ++ m ∷ []) ++ ms ≡ all = append_assoc past (m ∷ []) ms in
       let waits : waiting_when one all (F m) m ≡ waiting_when two all (F m) m =
-      ap (λ xs. without (without xs (flat_map one xs)) (F m)) (ahead_front past m ms r)
-      ∙ ap (λ xs. without (without past xs) (F m)) (joined_same past same)
-      ∙ ap (λ xs. without (without xs (flat_map two xs)) (F m)) (sym (ahead_front past m ms r)) in
+      grind (arith, ahead_front past m ms r, joined_same past same) in
       let here : one m ≡ two m = a.0 ∙ ap (λ ws. lose ws m) waits ∙ sym b.0 in (
         here,
         unique_from (past ++ m ∷ []) ms (subst Rises (sym assoc) r) (All-append (λ x. one x ≡ two x) past (m ∷ []) same (here, tt))
