@@ -3,7 +3,7 @@ use Rattle.std.proofs.Common.{◌≡◌, ℕ, ◌+◌, ◌-◌, ◌<◌, ◌≤�
 use Rattle.reading.specs.declared.family.Family.{Ghosts}
 use Rattle.reading.specs.Reading.{Model}
 use Rattle.reader.specs.Standing.{Ran}
-use Rattle.reader.proofs.Feeding.{ran_none, ran_both}
+use Rattle.reader.proofs.Feeding.{ran_both}
 use Rattle.line.specs.Steps.{Joins}
 use Rattle.ports.specs.Ports.{Took}
 use Rattle.gateway.specs.declared.gateway.Gateway.{Gateway}
@@ -25,18 +25,6 @@ module _ {F R L : Type 0} {G : Ghosts F R} (m : Model R) (waiting : L → List �
     pub all : limit - left ≡ min limit (length (waiting l₀))
 
   module _ (joins : Joins step) where
-    pub going_none : Going limit g₀ l₀
-    going_none =
-        let none : 0 ≡ limit - limit = omega arith in
-        record {
-          within = omega arith;
-          waited = omega arith;
-          rest = ap (λ n. drop n (waiting l₀)) none;
-          pumped = omega arith;
-          ran = subst (λ n. Ran m Took g₀.reader g₀.bank (take n (waiting l₀)) g₀.reader g₀.bank) none (ran_none m Took g₀.reader g₀.bank);
-          steps = subst (λ n. step l₀ n l₀) none (joins.stays l₀);
-        }
-
     module _ (left : ℕ) (g : Gateway F R G) (l : L) (going : Going left g l) where
       pub going_more : (k : ℕ) (g' : Gateway F R G) (l' : L) → Drawn (waiting l) left k (waiting l') → g'.reader.pumped ≡ g.reader.pumped + k →
           Ran m Took g.reader g.bank (take k (waiting l)) g'.reader g'.bank → step l k l' → Going (left - k) g' l'
