@@ -16,12 +16,11 @@ impl Sink for Ignored {
     fn publish(&mut self, _: Message) {}
 }
 
+// The tests' own sum: it shares nothing with the code that they test.
 fn sum(bytes: &[u8]) -> u8 {
-    let mut sum: u8 = 0;
-    for b in bytes {
-        sum = sum.wrapping_add(*b);
-    }
-    sum
+    bytes
+        .iter()
+        .fold(0, |sum: u8, byte| sum.wrapping_add(*byte))
 }
 
 // An NCOM packet with `value` in its time, its first rate, its first velocity and the first byte of its channel.

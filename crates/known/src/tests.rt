@@ -19,9 +19,9 @@ fn words_at_the_edges(rt: HostRuntime) {
 #[test]
 fn statuses_at_the_edges(rt: HostRuntime) {
     for status in [0, 7, 10, 20, 22] {
-        assert!(rt; matches!(structure_of(status), Some(Structure::StructureA)));
+        assert_eq!(rt; structure_of(status), Some(Structure::StructureA));
     }
-    assert!(rt; matches!(structure_of(11), Some(Structure::StructureB)));
+    assert_eq!(rt; structure_of(11), Some(Structure::StructureB));
     for status in [8, 9, 12, 19, 23, 255] {
         assert!(rt; structure_of(status).is_none());
     }
@@ -61,8 +61,8 @@ fn status_0_and_structure_b_leave_quantities(rt: HostRuntime) -> Result<(), Fail
     assert!(rt; snapshot.status == 0 && snapshot.time == Some(40));
     assert!(rt; !snapshot.inertial_valid && !snapshot.solution_valid);
     assert!(rt; snapshot.rates.x == 40 && snapshot.solution.velocity.x == 40);
-    assert!(rt; reader.record().heard_count() == 1);
-    assert!(rt; reader.record().channel(8) == None);
+    assert_eq!(rt; reader.record().heard_count(), 1);
+    assert_eq!(rt; reader.record().channel(8), None);
     Ok(())
 }
 
@@ -73,7 +73,7 @@ fn status_1_takes_no_solution(rt: HostRuntime) -> Result<(), Fail> {
     assert!(rt; snapshot.status == 1 && snapshot.time == None);
     assert!(rt; snapshot.inertial_valid && !snapshot.solution_valid);
     assert!(rt; snapshot.rates.x == 60 && snapshot.solution.velocity.x == 40);
-    assert!(rt; reader.record().channel(9) == Some([60, 0, 0, 0, 0, 0, 0, 0]));
+    assert_eq!(rt; reader.record().channel(9), Some([60, 0, 0, 0, 0, 0, 0, 0]));
     Ok(())
 }
 
@@ -81,13 +81,14 @@ fn status_1_takes_no_solution(rt: HostRuntime) -> Result<(), Fail> {
 #[test]
 fn a_channel_is_heard_twice(rt: HostRuntime) -> Result<(), Fail> {
     let reader = read_packets(&[packet(4, 255, 1), packet(4, 255, 2)])?;
-    assert!(rt; reader.record().heard_count() == 1);
-    assert!(rt; reader.record().channel(255) == Some([2, 0, 0, 0, 0, 0, 0, 0]));
-    match reader.latest() {
-        Some(message) => {
-            assert!(rt; message.number == 6 && message.place == 72 && message.code == 255);
-            Ok(())
-        },
-        None => Err(Fail::new("no message")),
-    }
+    assert_eq!(rt; reader.record().heard_count(), 1);
+    assert_eq!(rt;
+        reader.record().channel(255),
+        Some([2, 0, 0, 0, 0, 0, 0, 0])
+    );
+    let Some(message) = reader.latest() else {
+        return Err(Fail::new("no message"));
+    };
+    assert!(rt; message.number == 6 && message.place == 72 && message.code == 255);
+    Ok(())
 }

@@ -4,7 +4,7 @@ ghost use Rattle.line.specs.Refusals.{grant_number, record_number};
 
 use std::fmt;
 
-#[derive(Clone, Copy, Debug)]
+#[derive(Clone, Copy, PartialEq, Eq, Debug)]
 pub enum GrantRefusal {
     // A credit above 65,536.
     AboveMost(u32),
@@ -20,7 +20,7 @@ impl GrantRefusal {
     }
 }
 
-#[derive(Clone, Copy, Debug)]
+#[derive(Clone, Copy, PartialEq, Eq, Debug)]
 pub enum RecordRefusal {
     // A record whose length or content is cut short, by the place of its length.
     Malformed(usize),

@@ -2,17 +2,13 @@
 use oxts::format::Format;
 use oxts_fields::table::layout_of;
 use oxts_units::calendar::gps_time;
-use oxts_units::fields::field_texts;
+use oxts_units::fields::{FieldText, field_texts};
 use oxts_units::measure::{Measure, Scale, Unit};
 use std::test::Fail;
 
 fn is_named(channel: u32, number: u32) -> bool {
-    for field in field_texts() {
-        if field.0 as u32 == channel && field.1 as u32 == number {
-            return true;
-        }
-    }
-    false
+    field_texts().iter().any(|FieldText(of, place, _, _)| *of as u32 == channel
+        && *place as u32 == number)
 }
 
 #[test]
