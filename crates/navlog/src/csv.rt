@@ -1,15 +1,13 @@
 // What navlog writes for a spreadsheet: a row for each message, raw numbers first, then quantities in their units.
 use crate::inbox::Inbox;
-use oxts_units::measure::Measure;
+use oxts_units::measure::{Measure, Unit};
 use oxts_units::quantities::{Quantity, inertial, solution, time};
 use reading::message::{Kind, Message};
 use std::io;
 use std::io::Write;
 
 fn write_names<W: Write>(quantities: &[Quantity], out: &mut W) -> io::Result<()> {
-    for quantity in quantities {
-        let name = quantity.0;
-        let symbol = quantity.1.0;
+    for Quantity(name, Unit(symbol, _)) in quantities {
         write!(out, ",{name} [{symbol}]")?;
     }
     Ok(())
@@ -33,12 +31,12 @@ fn write_quantities<W: Write>(
     raws: &[i64],
     out: &mut W,
 ) -> io::Result<()> {
-    for (quantity, raw) in quantities.iter().zip(raws.iter()) {
+    for (Quantity(_, unit), raw) in quantities.iter().zip(raws) {
         write!(out, ",")?;
         if shown {
             let measure = Measure {
                 raw: *raw,
-                unit: quantity.1,
+                unit: *unit,
             };
             write!(out, "{measure}")?;
         }
@@ -47,17 +45,20 @@ fn write_quantities<W: Write>(
 }
 
 fn write_row<W: Write>(message: &Message, out: &mut W) -> io::Result<()> {
-    let number = message.number;
-    let kind = message.kind.bit();
-    let place = message.place;
-    let code = message.code;
-    write!(out, "{number},{kind},{place},{code}")?;
-    for raw in &message.quantities {
+    let Message {
+        kind,
+        number,
+        place,
+        code,
+        quantities: raws,
+    } = message;
+    let bit = kind.bit();
+    write!(out, "{number},{bit},{place},{code}")?;
+    for raw in raws {
         write!(out, ",{raw}")?;
     }
-    let raws = &message.quantities;
-    let is_inertial = message.kind == Kind::Inertial;
-    let is_solution = message.kind == Kind::Solution;
+    let is_inertial = *kind == Kind::Inertial;
+    let is_solution = *kind == Kind::Solution;
     write_quantities(is_inertial, time(), raws, out)?;
     write_quantities(is_inertial, inertial(), &raws[1..9], out)?;
     write_quantities(is_solution, solution(), raws, out)?;

@@ -3,20 +3,21 @@ ghost use Rattle.navlog.specs.Pieces.{Took};
 
 use reading::message::Message;
 use reading::sink::Sink;
+use std::alloc::AllocError;
 
 #[derive(Drop)]
 pub struct Inbox {
     pub messages: Vec<Message>,
-    // A message found no memory.
-    pub lost: bool,
+    // Fails where a message found no memory.
+    pub kept: Result<(), AllocError>,
 }
 
 impl Sink for Inbox {
     ghost took = { Took };
 
     fn publish(&mut self, message: Message) {
-        if self.messages.push(message).is_err() {
-            self.lost = true;
+        if let Err(refused) = self.messages.push(message) {
+            self.kept = Err(AllocError::from(refused));
         }
     }
 }

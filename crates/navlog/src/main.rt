@@ -7,6 +7,7 @@ use std::process::ExitCode;
 mod carried;
 mod csv;
 mod failure;
+mod form;
 mod inbox;
 mod log;
 mod options;

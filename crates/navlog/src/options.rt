@@ -2,25 +2,14 @@
 ghost use Rattle.navlog.specs.Names.{Names};
 
 use crate::failure::Failure;
+use crate::form::Form;
+use oxts::format::Format;
 use std::alloc::Global;
-
-#[derive(Clone, Copy)]
-pub enum FamilyName {
-    Ncom,
-    Mcom,
-}
-
-// How messages are written: as lines of text, or as a table for a spreadsheet.
-#[derive(Clone, Copy)]
-pub enum Form {
-    Text,
-    Csv,
-}
 
 // A recording by its name, what carries its bytes (datagrams, frames, or frames inside datagrams), and how it is written out.
 #[derive(Clone, Copy)]
 pub struct Recording<'a> {
-    pub family: FamilyName,
+    pub family: Format,
     pub path: &'a str,
     pub datagrams: bool,
     pub frames: bool,
@@ -33,23 +22,18 @@ pub enum Command<'a> {
     Log(Recording<'a>),
 }
 
-fn family_named(word: &str) -> Option<FamilyName>
+fn family_named(word: &str) -> Option<Format>
     ensures names { Names word.now result }
 {
     match word {
-        "ncom" => Some(FamilyName::Ncom),
-        "mcom" => Some(FamilyName::Mcom),
+        "ncom" => Some(Format::Ncom),
+        "mcom" => Some(Format::Mcom),
         _ => None,
     }
 }
 
 fn has_word(words: &[String], wanted: &str) -> bool {
-    for word in words {
-        if word.as_str() == wanted {
-            return true;
-        }
-    }
-    false
+    words.iter().any(|word| word.as_str() == wanted)
 }
 
 // The words that are no options; an option that is not known is refused. A lone hyphen is standard input, and no option.

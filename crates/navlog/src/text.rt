@@ -1,4 +1,4 @@
-// What navlog prints of a recording as lines of text.
+// What navlog writes of a recording as lines of text.
 use crate::inbox::Inbox;
 use oxts_record::record::Record;
 use reader::reader::Reader;
@@ -6,7 +6,7 @@ use reading::family::Family;
 use std::io;
 use std::io::Write;
 
-pub fn print_messages<W: Write>(inbox: &Inbox, out: &mut W) -> io::Result<()> {
+pub fn write_messages<W: Write>(inbox: &Inbox, out: &mut W) -> io::Result<()> {
     for message in inbox.messages.as_slice() {
         writeln!(out, "{message}")?;
     }
@@ -14,7 +14,7 @@ pub fn print_messages<W: Write>(inbox: &Inbox, out: &mut W) -> io::Result<()> {
 }
 
 // The counts, the record and how many channels were heard.
-pub fn print_end<M: Copy, F: Family<Record = Record<M>>, W: Write>(
+pub fn write_end<M: Copy, F: Family<Record = Record<M>>, W: Write>(
     reader: &Reader<F>,
     out: &mut W,
 ) -> io::Result<()> {
@@ -23,6 +23,5 @@ pub fn print_end<M: Copy, F: Family<Record = Record<M>>, W: Write>(
     let heard = reader.record().heard_count();
     writeln!(out, "{counts}")?;
     writeln!(out, "{snapshot}")?;
-    writeln!(out, "heard {heard}")?;
-    out.flush()
+    writeln!(out, "heard {heard}")
 }
