@@ -52,10 +52,9 @@ impl Logger<'_> {
         if self.recording.path == "-" {
             return self.log_from(&mut self.rt.stdin());
         }
-        match File::open(self.rt, self.recording.path) {
-            Ok(mut file) => self.log_from(&mut file),
-            Err(error) => Err(self.unreadable(error)),
-        }
+        let opened = File::open(self.rt, self.recording.path);
+        let mut file = opened.map_err(|error| self.unreadable(error))?;
+        self.log_from(&mut file)
     }
 
     fn log_from<S: Read>(&self, source: &mut S) -> Result<(), Failure> {
@@ -63,10 +62,10 @@ impl Logger<'_> {
             return self.log_source(source);
         }
         let mut memory = Vec::new(self.rt.alloc());
-        match source.read_to_end(&mut memory) {
-            Ok(_) => self.log_carried(memory.as_slice()),
-            Err(error) => Err(self.unreadable(error)),
-        }
+        source
+            .read_to_end(&mut memory)
+            .map_err(|error| self.unreadable(error))?;
+        self.log_carried(memory.as_slice())
     }
 
     // Reads the recording through the lines that carry it. A datagram that is cut short is told once all before it is printed.
@@ -122,6 +121,7 @@ impl Logger<'_> {
         let mut piece = vec![in self.rt.alloc(); 0; PIECE]?;
         // A source may never end, but a loop must.
         for _ in 0..u64::MAX {
+            // By `map_err` the proof of the range below outgrew the check's memory.
             let n = match source.read(&mut piece) {
                 Ok(n) => n,
                 Err(error) => return Err(self.unreadable(error)),
@@ -139,7 +139,7 @@ impl Logger<'_> {
     fn unreadable(&self, error: io::Error) -> Failure {
         match String::from_str(self.rt.alloc(), self.recording.path) {
             Ok(path) => Failure::Recording(path, error),
-            Err(_) => Failure::Memory,
+            Err(error) => Failure::from(error),
         }
     }
 }
