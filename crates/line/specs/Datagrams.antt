@@ -12,6 +12,10 @@ records zero (low ∷ []) = []
 records zero (low ∷ high ∷ memory) =
     cond (nat_le (low + high * 256) (length memory)) (take (low + high * 256) memory ∷ records (low + high * 256) memory) []
 
+-- What is left of a record's content, and the contents of the records in the memory past it.
+abbrev pub left : List ℕ → List ℕ → List ℕ
+left content rest = content ++ flat_map (λ c. c) (records 0 rest)
+
 -- how much memory whole records take
 abbrev pub span : List (List ℕ) → ℕ
 span [] = 0

@@ -1,7 +1,6 @@
 // A line over records in the caller's memory, each a length of two bytes, the low one first, and then the content.
-ghost use Rattle.std.specs.Prelude.{◌≡◌, ◌+◌, min, [], ◌∷◌, ◌++◌, length, MatchOption};
-ghost use Rattle.std.specs.List.{flat_map};
-ghost use Rattle.line.specs.Datagrams.{records, next, Counted, WrittenAndRead};
+ghost use Rattle.std.specs.Prelude.{◌≡◌, ◌+◌, min, [], ◌∷◌, length, MatchOption};
+ghost use Rattle.line.specs.Datagrams.{records, left, next, Counted, WrittenAndRead};
 ghost use Rattle.line.specs.Lines.{Taken};
 
 use crate::copies::copy_front;
@@ -55,7 +54,7 @@ pub fn record_count(memory: &[u8]) -> Result<usize, RecordRefusal>
 }
 
 impl Line for Datagram<'_> {
-    ghost waiting = { λ s. s.content.now ++ flat_map (λ c. c) (records 0 s.rest.now) };
+    ghost waiting = { λ s. left s.content.now s.rest.now };
 
     ghost steps = { λ s k t. Unit {0} };
 
@@ -63,7 +62,7 @@ impl Line for Datagram<'_> {
 
     fn take(&mut self, buf: &mut [u8]) -> usize
         ensures steps { Unit {0} }
-        ensures taken { Taken (self.old.content.now ++ flat_map (λ c. c) (records 0 self.old.rest.now)) buf.old result (self.new.content.now ++ flat_map (λ c. c) (records 0 self.new.rest.now)) buf.new }
+        ensures taken { Taken (left self.old.content.now self.old.rest.now) buf.old result (left self.new.content.now self.new.rest.now) buf.new }
         ensures count { result ≡ min (length buf.old) (length (next self.old.content.now (records 0 self.old.rest.now))) }
     {
         while self.content.is_empty() {
@@ -73,7 +72,7 @@ impl Line for Datagram<'_> {
             self.content = content;
             self.rest = rest;
         }
-        let k = copy_front(self.content, buf, usize::MAX);
+        let k = copy_front(self.content, buf);
         self.content = &self.content[k..];
         k
     }

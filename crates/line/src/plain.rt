@@ -39,7 +39,8 @@ impl Line for Plain<'_> {
         ensures taken { Taken self.old.bytes.now buf.old result self.new.bytes.now buf.new }
         ensures count { result ≡ min (min (length self.old.bytes.now) (length buf.old)) self.old.most }
     {
-        let k = copy_front(self.bytes, buf, self.most);
+        let most = self.bytes.len().min(self.most);
+        let k = copy_front(&self.bytes[..most], buf);
         self.bytes = &self.bytes[k..];
         k
     }
