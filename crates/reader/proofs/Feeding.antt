@@ -10,8 +10,7 @@ use Rattle.reading.specs.Reading.{Model, Laws, reading, resumed, Waits}
 use Rattle.reader.specs.Held.{bytes}
 use Rattle.reader.specs.Ledgers.{Agrees}
 use Rattle.reader.specs.Progress.{Moves}
-use Rattle.reader.specs.Standing.{News}
-use Rattle.reader.specs.Standing.{Ran}
+use Rattle.reader.specs.Standing.{News, Ran}
 use Rattle.reading.proofs.Steps.{stop, resumed_ends, reading_more}
 use Rattle.reader.proofs.Moves.{handed_both, moves_both, moves_still, moves_waits}
 use Rattle.reading.proofs.Opens.{held_short}

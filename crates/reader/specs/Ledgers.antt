@@ -1,5 +1,5 @@
 -- A ledger, which is what a reader keeps of what was read: what each verdict makes of it, and when it agrees with a tally.
-use Rattle.std.specs.Prelude.{◌≡◌, ℕ, ◌+◌, cond, List, [], ◌∷◌, length, None, Some, ◌==◌}
+use Rattle.std.specs.Prelude.{◌≡◌, ℕ, ◌+◌, ◌^◌, ◌<◌, cond, List, [], ◌∷◌, length, None, Some, ◌==◌}
 use Rattle.reading.specs.declared.message.Body.{Body}
 use Rattle.reading.specs.declared.message.Defect.{Defect}
 use Rattle.reading.specs.declared.message.Message.{Message}
@@ -52,3 +52,8 @@ pub record Agrees {R : Type 0} (l : Ledger R) (t : Tally R) : Type 0 where
 abbrev pub Handed : {S : Type 0} → (S → Message → S → Type 0) → S → List Message → S → Type 0
 Handed took s [] u = s ≡ u
 Handed {S} took s (x ∷ xs) u = (v : S) × took s x v × Handed took v xs u
+
+-- One more message has a number, and n more bytes have places.
+pub record Room {R : Type 0} (l : Ledger R) (n : ℕ) : Type 0 where
+  pub number : l.messages + 1 < 2 ^ 64
+  pub place : l.accepted + l.skipped + n < 2 ^ 64

@@ -1,6 +1,6 @@
 // What a reader keeps of what was read: counts, latest message and record.
 ghost use Rattle.std.specs.Prelude.{◌≡◌, ◌+◌, ◌^◌, ◌<◌, [], ◌∷◌, if◌then◌else◌, nat_eq};
-ghost use Rattle.reader.specs.Ledgers.{blank, after_telling, after_quiet, after_fault, after_packet, message_of, fault_body, Handed};
+ghost use Rattle.reader.specs.Ledgers.{blank, after_telling, after_quiet, after_fault, after_packet, message_of, fault_body, Handed, Room};
 
 use reading::message::{Body, Defect, Kind, Message};
 use reading::sink::Sink;
@@ -34,8 +34,7 @@ impl<R> Ledger<R> {
     }
 
     pub(crate) fn tell<S: Sink>(&mut self, body: Body, sink: &mut S)
-        requires number { self.old.messages + 1 < 2 ^ 64 }
-        requires place { self.old.accepted + self.old.skipped < 2 ^ 64 }
+        requires { Room self.old 0 }
         ensures ledger { self.new ≡ after_telling self.old body }
         ensures sink { S.took sink.old (message_of self.old body) sink.new }
     {
@@ -62,8 +61,7 @@ impl<R> Ledger<R> {
 
     // A fault at n bytes skips one; at 1 byte it tells nothing.
     pub(crate) fn skip<S: Sink>(&mut self, n: usize, defect: Defect, sink: &mut S)
-        requires number { self.old.messages + 1 < 2 ^ 64 }
-        requires place { self.old.accepted + self.old.skipped + 1 < 2 ^ 64 }
+        requires room { Room self.old 1 }
         requires faults { self.old.faults + 1 < 2 ^ 64 }
         ensures ledger { self.new ≡ after_fault n self.old defect }
         ensures sink { Handed S.took sink.old (if nat_eq n 1 then [] else message_of self.old (fault_body defect) ∷ []) sink.new }
@@ -77,8 +75,7 @@ impl<R> Ledger<R> {
 
     // A whole packet of n bytes is accepted.
     pub(crate) fn accept<S: Sink>(&mut self, n: usize, body: Body, sink: &mut S)
-        requires number { self.old.messages + 1 < 2 ^ 64 }
-        requires place { self.old.accepted + self.old.skipped + n < 2 ^ 64 }
+        requires room { Room self.old n }
         requires whole { self.old.whole + 1 < 2 ^ 64 }
         requires passed { self.old.passed + 1 < 2 ^ 64 }
         ensures ledger { self.new ≡ after_packet n self.old body }
