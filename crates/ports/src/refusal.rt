@@ -5,6 +5,7 @@ ghost use Rattle.ports.specs.Refusals.{open_number, take_number, port_number};
 
 use std::fmt;
 
+// `NoPort` stands here and below: to nest a type for it would give each caller one more level to match, for one shared text.
 #[derive(Clone, Copy, Debug)]
 pub enum OpenRefusal {
     NoPort(u32),
