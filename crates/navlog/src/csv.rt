@@ -26,14 +26,13 @@ pub fn write_header<W: Write>(out: &mut W) -> io::Result<()> {
 
 // Quantities in their units, or as many empty columns where the message is of another kind.
 fn write_quantities<W: Write>(
-    shown: bool,
     quantities: &[Quantity],
-    raws: &[i64],
+    raws: Option<&[i64]>,
     out: &mut W,
 ) -> io::Result<()> {
-    for (Quantity(_, unit), raw) in quantities.iter().zip(raws) {
+    for (i, Quantity(_, unit)) in quantities.iter().enumerate() {
         write!(out, ",")?;
-        if shown {
+        if let Some(raw) = raws.and_then(|raws| raws.get(i)) {
             let measure = Measure {
                 raw: *raw,
                 unit: *unit,
@@ -57,11 +56,11 @@ fn write_row<W: Write>(message: &Message, out: &mut W) -> io::Result<()> {
     for raw in raws {
         write!(out, ",{raw}")?;
     }
-    let is_inertial = *kind == Kind::Inertial;
-    let is_solution = *kind == Kind::Solution;
-    write_quantities(is_inertial, time(), raws, out)?;
-    write_quantities(is_inertial, inertial(), &raws[1..9], out)?;
-    write_quantities(is_solution, solution(), raws, out)?;
+    let of_inertial = (*kind == Kind::Inertial).then_some(&raws[..]);
+    let of_solution = (*kind == Kind::Solution).then_some(&raws[..]);
+    write_quantities(time(), of_inertial, out)?;
+    write_quantities(inertial(), of_inertial.map(|raws| &raws[1..]), out)?;
+    write_quantities(solution(), of_solution, out)?;
     writeln!(out, "")
 }
 

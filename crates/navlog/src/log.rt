@@ -5,7 +5,7 @@ ghost use Rattle.std.specs.Prelude.{OnOk};
 use crate::carried::Carried;
 use crate::failure::Failure;
 use crate::inbox::Inbox;
-use crate::options::Recording;
+use crate::options::{Carrier, Recording};
 use line::datagram::{Datagram, record_count};
 use line::opener::Opener;
 use line::plain::Plain;
@@ -57,8 +57,9 @@ impl Logger<'_> {
         self.log_from(&mut file)
     }
 
+    // Reads the recording through the lines that carry it.
     fn log_from<S: Read>(&self, source: &mut S) -> Result<(), Failure> {
-        if !self.recording.datagrams && !self.recording.frames {
+        if let Carrier::Nothing = self.recording.carrier {
             return self.log_source(source);
         }
         let mut memory = Vec::new(self.rt.alloc());
@@ -68,17 +69,25 @@ impl Logger<'_> {
         self.log_carried(memory.as_slice())
     }
 
-    // Reads the recording through the lines that carry it. A datagram that is cut short is told once all before it is printed.
     fn log_carried(&self, memory: &[u8]) -> Result<(), Failure> {
-        if !self.recording.datagrams {
-            return self.log_source(&mut Carried(Opener::new(Plain::new(memory, PIECE))));
+        match self.recording.carrier {
+            Carrier::Nothing => self.log_source(&mut Carried(Plain::new(memory, PIECE))),
+            Carrier::Frames => self.log_source(&mut Carried(Opener::new(Plain::new(
+                memory, PIECE,
+            )))),
+            Carrier::Datagrams => {
+                self.log_source(&mut Carried(Datagram::new(memory)))?;
+                self.ends_whole(memory)
+            }
+            Carrier::FramesInDatagrams => {
+                self.log_source(&mut Carried(Opener::new(Datagram::new(memory))))?;
+                self.ends_whole(memory)
+            }
         }
-        let datagrams = Datagram::new(memory);
-        if self.recording.frames {
-            self.log_source(&mut Carried(Opener::new(datagrams)))?;
-        } else {
-            self.log_source(&mut Carried(datagrams))?;
-        }
+    }
+
+    // A datagram that is cut short is told once all before it is printed.
+    fn ends_whole(&self, memory: &[u8]) -> Result<(), Failure> {
         match record_count(memory) {
             Ok(_) => Ok(()),
             Err(refusal) => Err(Failure::Records(

@@ -6,13 +6,21 @@ use crate::form::Form;
 use oxts::format::Format;
 use std::alloc::Global;
 
-// A recording by its name, what carries its bytes (datagrams, frames, or frames inside datagrams), and how it is written out.
+// What carries the bytes of a recording.
+#[derive(Clone, Copy)]
+pub enum Carrier {
+    Nothing,
+    Frames,
+    Datagrams,
+    FramesInDatagrams,
+}
+
+// A recording by its name, and how it is read and written out.
 #[derive(Clone, Copy)]
 pub struct Recording<'a> {
     pub family: Format,
     pub path: &'a str,
-    pub datagrams: bool,
-    pub frames: bool,
+    pub carrier: Carrier,
     pub form: Form,
 }
 
@@ -51,6 +59,15 @@ fn plain_words(heap: Global, words: &[String]) -> Result<Vec<&str>, Failure> {
     Ok(plain)
 }
 
+fn carried_by(words: &[String]) -> Carrier {
+    match (has_word(words, "--datagrams"), has_word(words, "--frames")) {
+        (false, false) => Carrier::Nothing,
+        (false, true) => Carrier::Frames,
+        (true, false) => Carrier::Datagrams,
+        (true, true) => Carrier::FramesInDatagrams,
+    }
+}
+
 // What the words ask for: help wherever it is asked, or a family and a file.
 pub fn parse(heap: Global, words: &[String]) -> Result<Command<'_>, Failure> {
     if has_word(words, "--help") || has_word(words, "-h") {
@@ -68,8 +85,7 @@ pub fn parse(heap: Global, words: &[String]) -> Result<Command<'_>, Failure> {
         [path] => Ok(Command::Log(Recording {
             family,
             path,
-            datagrams: has_word(words, "--datagrams"),
-            frames: has_word(words, "--frames"),
+            carrier: carried_by(words),
             form: if has_word(words, "--csv") {
                 Form::Csv
             } else {
