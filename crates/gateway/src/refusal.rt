@@ -1,4 +1,4 @@
-// Why nothing is pumped.
+// Why nothing is pumped. A refusal carries the limit, so its number is a match and no discriminant.
 ghost use Rattle.std.specs.Prelude.{◌≡◌};
 ghost use Rattle.gateway.specs.Passing.{pump_number};
 

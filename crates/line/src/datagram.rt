@@ -65,6 +65,7 @@ impl Line for Datagram<'_> {
         ensures taken { Taken (left self.old.content.now self.old.rest.now) buf.old result (left self.new.content.now self.new.rest.now) buf.new }
         ensures count { result ≡ min (length buf.old) (length (next self.old.content.now (records 0 self.old.rest.now))) }
     {
+        // It goes on by what the memory holds, and counts nothing.
         while self.content.is_empty() {
             let Some((content, rest)) = split_record(self.rest) else {
                 return 0;

@@ -40,6 +40,7 @@ impl<L: Line> Line for Opener<L> {
         if buf.is_empty() {
             return 0;
         }
+        // It goes on by what comes from below, and counts nothing.
         while self.due == 0 {
             let Some(length) = take_byte(&mut self.below) else {
                 return 0;

@@ -31,7 +31,7 @@ impl Form {
     }
 
     // What comes behind the last message.
-    pub fn end<M: Copy, F: Family<Record = Record<M>>, W: Write>(
+    pub fn end<M, F: Family<Record = Record<M>>, W: Write>(
         self,
         reader: &Reader<F>,
         out: &mut W,

@@ -104,7 +104,7 @@ impl Logger<'_> {
         }
     }
 
-    fn log_family<M: Copy, F: Family<Record = Record<M>>, S: Read>(
+    fn log_family<M, F: Family<Record = Record<M>>, S: Read>(
         &self,
         source: &mut S,
     ) -> Result<(), Failure> {

@@ -24,12 +24,14 @@ pub struct Recording<'a> {
     pub form: Form,
 }
 
+// Help is a command and no missing recording, so this is no `Option`.
 #[derive(Drop)]
 pub enum Command<'a> {
     Help,
     Log(Recording<'a>),
 }
 
+// By a function: the format belongs to another crate, which takes no `TryFrom` from here.
 fn family_named(word: &str) -> Option<Format>
     ensures names { Names word.now result }
 {

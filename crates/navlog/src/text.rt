@@ -14,7 +14,7 @@ pub fn write_messages<W: Write>(inbox: &Inbox, out: &mut W) -> io::Result<()> {
 }
 
 // The counts, the record and how many channels were heard.
-pub fn write_end<M: Copy, F: Family<Record = Record<M>>, W: Write>(
+pub fn write_end<M, F: Family<Record = Record<M>>, W: Write>(
     reader: &Reader<F>,
     out: &mut W,
 ) -> io::Result<()> {

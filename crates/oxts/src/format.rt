@@ -1,4 +1,4 @@
-// The two packet formats, and where they differ.
+// The two packet formats, and where they differ: each number by a match of its own, which reads as plainly as a table of both.
 ghost use Rattle.std.specs.Prelude.{◌≡◌};
 ghost use Rattle.oxts.specs.Formats.{longest_of, channel_place};
 

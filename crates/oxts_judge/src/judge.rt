@@ -96,7 +96,7 @@ fn judge_packet(format: Format, bytes: &[u8]) -> Verdict
     )
 }
 
-// Between these lengths nothing is judged.
+// Between these lengths nothing is judged. Each length is a rule of the formats, so they stand in one match and not as steps to be handed in.
 pub fn judge(format: Format, bytes: &[u8]) -> Verdict
     ensures value { result ≡ judge_of format bytes.now }
 {

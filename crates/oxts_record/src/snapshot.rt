@@ -5,7 +5,7 @@ ghost use Rattle.oxts_record.specs.Snapshots.{first_snapshot, nothing_valid, ine
 use oxts::batches::{Solution, Vector, inertial_in, solution_in};
 use std::fmt;
 
-// A quantity that is no longer valid stays as it was, which an `Option` would lose.
+// A quantity that is no longer valid stays as it was, which an `Option` would lose. The status is the packet's own number: most have no name here.
 #[derive(Clone, Copy)]
 pub struct Snapshot {
     pub status: u8,

@@ -1,4 +1,4 @@
-// Why a port is not opened, is not closed or counted, or gives no message.
+// Why a port is not opened, is not closed or counted, or gives no message. A refusal carries what was asked, so its number is a match and no discriminant.
 ghost use Rattle.std.specs.Prelude.{◌≡◌};
 ghost use Rattle.ports.specs.declared.refusal.TakeRefusal.TheVariants.{Port};
 ghost use Rattle.ports.specs.Refusals.{open_number, take_number, port_number};

@@ -85,6 +85,7 @@ pub(crate) fn scan<F: Family, S: Sink>(
     ensures moves { Moves F.model S.took ledger.old bytes.now (next - 1) sink.old ledger.new (drop (length bytes.now - result) bytes.now) result sink.new }
 {
     let mut cursor = Cursor { rest: bytes, next };
+    // Each verdict says where the cursor goes, so there is nothing to go through by a `for`.
     while cursor.next <= cursor.rest.len() {
         cursor = step::<F, S>(cursor, ledger, sink);
     }

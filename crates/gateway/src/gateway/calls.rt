@@ -12,6 +12,7 @@ use ports::refusal::{OpenRefusal, PortRefusal, TakeRefusal};
 use reading::family::Family;
 use reading::message::Message;
 
+// As those of a bank, each call says in full what it answers, leaves and names.
 impl<F: Family> Gateway<F> {
     // Opens a port for the kinds whose bits `wanted` sums.
     pub fn open(&mut self, port: u32, wanted: u32) -> Result<(), OpenRefusal>
