@@ -10,7 +10,7 @@ pub enum Format {
 
 impl Format {
     // The length of a packet.
-    pub fn longest(self) -> usize
+    pub const fn longest(self) -> usize
         ensures value { result ≡ longest_of self }
     {
         match self {

@@ -1,5 +1,6 @@
 // The packet families NCOM and MCOM: the verdicts and hints of a format, and a record of their own.
 ghost use Rattle.std.specs.Prelude.{refl};
+ghost use Rattle.oxts.specs.Formats.{longest_of};
 ghost use Rattle.oxts.specs.declared.format.Format.TheVariants.{Ncom as ncom-format, Mcom as mcom-format};
 ghost use Rattle.oxts_record.specs.Families.{family_model, family_laws};
 
@@ -21,24 +22,12 @@ impl Marker for NcomFormat {
     ghost FORMAT = { ncom-format };
 
     const FORMAT: Format = Format::Ncom;
-
-    ghost LONGEST = { 72 };
-
-    const LONGEST: usize = 72;
-
-    ghost longest = { refl };
 }
 
 impl Marker for McomFormat {
     ghost FORMAT = { mcom-format };
 
     const FORMAT: Format = Format::Mcom;
-
-    ghost LONGEST = { 84 };
-
-    const LONGEST: usize = 84;
-
-    ghost longest = { refl };
 }
 
 // The family of a format.
@@ -49,15 +38,15 @@ pub type Ncom = Oxts<NcomFormat>;
 pub type Mcom = Oxts<McomFormat>;
 
 impl<M: Marker> Family for Oxts<M> {
-    ghost LONGEST = { M.LONGEST };
+    ghost LONGEST = { longest_of M.FORMAT };
 
-    const LONGEST: usize = M::LONGEST;
+    const LONGEST: usize = Format::longest(M::FORMAT);
 
     type Record = Record<M>;
 
     ghost model = { family_model M.FORMAT };
 
-    ghost longest = { M.longest };
+    ghost longest = { refl };
 
     ghost laws = { family_laws M.FORMAT };
 

@@ -1,6 +1,5 @@
 // The record of a packet family: a navigation, with a mark of the family that it belongs to.
-ghost use Rattle.std.specs.Prelude.{◌≡◌, ℕ};
-ghost use Rattle.oxts.specs.Formats.{longest_of};
+ghost use Rattle.std.specs.Prelude.{◌≡◌};
 ghost use Rattle.oxts_record.specs.ChannelSets.{members};
 ghost use Rattle.oxts.specs.declared.format.Format.{Format};
 ghost use Rattle.oxts_record.specs.Navigations.{channel_of};
@@ -18,13 +17,6 @@ pub trait Marker {
     ghost FORMAT: { Format };
 
     const FORMAT: Format;
-
-    ghost LONGEST: { ℕ };
-
-    // The length of the format's packets.
-    const LONGEST: usize;
-
-    ghost longest: { LONGEST ≡ longest_of FORMAT };
 }
 
 // What is proved of channels needs no family: so the navigation is apart, and the record passes questions on to it.
