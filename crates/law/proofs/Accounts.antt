@@ -1,9 +1,8 @@
 -- After each call of a run, a port is as the run's history says.
 use Rattle.std.proofs.Common.{◌≡◌, ℕ, ◌+◌, ◌<◌, ◌≤◌, Bool, true, false, cond, ltb, ◌⊎◌, List, [], ◌∷◌, ◌++◌, length, get_or, drop, filter, sym, refl, ap, ◌∙◌, subst, inl, inr, append_assoc, append-nil, arith, length-append, length-drop, length-set, get_or-drop, get_or-set_other, get_or-set_same}
 use lib.Seq.{drop-append_seam, drop-append-le, drop-length}
-use Rattle.std.specs.List.{AllByRecursion}
-use Rattle.std.proofs.lemmas.List.Elements.{filter-append}
-use Rattle.std.proofs.ByRecursion.{All-weaker, all_kept_by, All-drop, all_from_every}
+use Rattle.std.specs.List.{All}
+use Rattle.std.proofs.lemmas.List.Elements.{All-nil, All-drop, All-filter, filter-append}
 use Rattle.std.proofs.lemmas.List.{get_or-map, length-map, get_or-replicate}
 use Rattle.std.proofs.lemmas.Bool.{cond-true, lt-ltb, cases_eq}
 use Rattle.reading.specs.declared.message.Message.{Message}
@@ -43,19 +42,17 @@ module _ {R : Type 0} (model : Model R) (follows : Follows model) where
       let more = follows.grows (pumped h) (brought waits a) in
       grind (arith, more.1, drop-append_seam (messages_of model (pumped h)) more.0)
 
-  pub old_numbers : (h : History R) → AllByRecursion (λ m. m.number ≤ length (published model h)) (published model h)
-  old_numbers h = all_from_every (λ m. m.number ≤ length (published model h)) (published model h)
-      (λ k d low high. let e = follows.numbers (pumped h) k d high in omega (arith, e))
+  pub old_numbers : (h : History R) → All (λ m. m.number ≤ length (published model h)) (published model h)
+  old_numbers h k d within = let e = follows.numbers (pumped h) k d within in omega (arith, e)
 
-  pub new_numbers : (bs more : List ℕ) → AllByRecursion (λ m. length (messages_of model bs) < m.number) (fresh model bs more)
-  new_numbers bs more = all_from_every (λ m. length (messages_of model bs) < m.number) (fresh model bs more)
-      (λ k d low high.
+  pub new_numbers : (bs more : List ℕ) → All (λ m. length (messages_of model bs) < m.number) (fresh model bs more)
+  new_numbers bs more k d in' =
       let n = length (messages_of model bs) in
       let all = messages_of model (bs ++ more) in
       let long = length-drop n all in
       let within : n + k < length all = omega (arith, long) in
       let e : (get_or (drop n all) k d).number ≡ (n + k) + 1 = ap (λ m. m.number) (get_or-drop n all k d) ∙ follows.numbers (bs ++ more) (n + k) d within in
-      omega (arith, e))
+      omega (arith, e)
 
   pub before_old : (h : History R) (c : Call) (a : Answer) (n : ℕ) → n ≤ length (published model h) → before model n (called h c a) ≡ before model n h
   before_old h c a n old = grind (arith, old)
@@ -63,13 +60,15 @@ module _ {R : Type 0} (model : Model R) (follows : Follows model) where
   pub before_new : (h : History R) (c : Call) (a : Answer) (n : ℕ) → length (published model h) < n → before model n (called h c a) ≡ h
   before_new h c a n late = grind (arith, late)
 
-  came_old : (h : History R) (o : Opening) → AllByRecursion (λ m. m.number ≤ length (published model h)) (came_of o (published model h))
-  came_old h closed = tt
-  came_old h (since n w) = all_kept_by (wants w) _ _ (All-drop _ n _ (old_numbers h))
+  came_old : (h : History R) (o : Opening) → All (λ m. m.number ≤ length (published model h)) (came_of o (published model h))
+  came_old h closed = All-nil _
+  came_old h (since n w) =
+      let P : Message → Type 0 = λ m. m.number ≤ length (published model h) in
+      All-filter (wants w) P _ (All-drop P n _ (old_numbers h))
 
   module _ (p : ℕ) where
-    given_old : (h : History R) (c : Call) (a : Answer) (o : Opening) → AllByRecursion (λ m. given_at model p (called h c a) m ≡ given_at model p h m) (came_of o (published model h))
-    given_old h c a o = All-weaker _ _ (λ m old. ap (given p) (before_old h c a m.number old)) _ (came_old h o)
+    given_old : (h : History R) (c : Call) (a : Answer) (o : Opening) → All (λ m. given_at model p (called h c a) m ≡ given_at model p h m) (came_of o (published model h))
+    given_old h c a o k d within = ap (given p) (before_old h c a _ (came_old h o k d within))
 
     pub data Account (h : History R) : Slot → Type 0 where
       is_shut : opening model p h ≡ closed → given p h ≡ [] → Account h shut
@@ -173,8 +172,8 @@ module _ {R : Type 0} (model : Model R) (follows : Follows model) where
         let news = fresh model (pumped h) (brought waits a) in
         let F = given_at model p h' in
         let pub-is = published_pump h limit waits a in
-        let late : AllByRecursion (λ m. F m ≡ given p h) news =
-        All-weaker _ _ (λ m l. ap (given p) (before_new h (Pump limit waits) a m.number l)) news (new_numbers (pumped h) (brought waits a)) in
+        let late : All (λ m. F m ≡ given p h) news =
+        λ k d within. ap (given p) (before_new h (Pump limit waits) a _ (new_numbers (pumped h) (brought waits a) k d within)) in
         let r = come F w (given p h) ws count news late in
         let old : List Message = came model p h in
         let old-is : old ≡ filter (wants w) (drop n (published model h)) = ap (λ x. came_of x (published model h)) o in
@@ -192,7 +191,7 @@ module _ {R : Type 0} (model : Model R) (follows : Follows model) where
         (grind (arith, r.missed, cnt, length-append, missed-new))
         (subst (Along base F []) (sym came-is)
         (along_append base F [] old (filter (wants w) news) (along_same base F (given_at model p h) [] old same al)
-        (subst (λ x. Along base F x (filter (wants w) news)) (sym held-old) (along_still base F (given p h) ws _ (all_kept_by (wants w) _ news late)))))
+        (subst (λ x. Along base F x (filter (wants w) news)) (sym held-old) (along_still base F (given p h) ws _ (All-filter (wants w) (λ m. F m ≡ given p h) news late)))))
         (r.room rm))
 
   -- A gateway and the history of its run.

@@ -1,8 +1,8 @@
 -- The law of a port and of a pump holds of every run, and a refused call, a missed count or a question changes nothing.
-use Rattle.std.proofs.Common.{◌≡◌, ℕ, ◌<◌, ◌≤◌, true, false, cond, not, ◌⊎◌, List, [], ◌++◌, length, get_or, drop, sym, refl, ap, ◌∙◌, subst, inl, inr, append-nil, arith}
+use Rattle.std.proofs.Common.{◌≡◌, ℕ, ◌<◌, ◌≤◌, Bool, true, false, cond, not, ◌⊎◌, List, [], ◌++◌, length, get_or, drop, sym, refl, ap, ◌∙◌, subst, inl, inr, append-nil, arith}
 use lib.Seq.{drop-length, set-get_or}
-use Rattle.std.specs.List.{ContainsAt, flat_map, AllByRecursion}
-use Rattle.std.proofs.ByRecursion.{All-weaker, all_has_itself, all_kept_by, kept_by_passes}
+use Rattle.std.specs.List.{Contains, flat_map, All}
+use Rattle.std.proofs.lemmas.List.Elements.{All-nil, All-filter, All-contains_itself, filter_passes}
 use Rattle.std.proofs.lemmas.Bool.{not-true, cases_lt}
 use Rattle.reading.specs.declared.message.Message.{Message}
 use Rattle.reading.specs.Reading.{Model}
@@ -29,6 +29,9 @@ pump_law n limit waits = record {
 -- a message is lost if the port is full
 full : (lost waits : List Message) (m : Message) → lost ≡ lost_when waits m → LostIfFull lost waits m
 full lost waits m e = grind (arith, e)
+
+all_none : (P : Message → Type 0) {ms : List Message} → ms ≡ [] → All P ms
+all_none P none = subst (All P) (sym none) (All-nil P)
 
 -- a refused call changes nothing
 still_slot : (s : Slot) (c : PortCall) → accepted (slot_answer s c) ≡ false → slot_after s c ≡ s
@@ -92,22 +95,22 @@ module _ {R : Type 0} (model : Model R) (follows : Follows model) where
         let none : came model p h ≡ [] = ap (λ x. came_of x (published model h)) o in
         record {
           lost = λ m. [];
-          lost_met = subst (AllByRecursion (λ m. [] ≡ lost_when (waiting_when (λ _. []) (came model p h) (given_at model p h m) m) m)) (sym none) tt;
-          lost_only = λ lost' _. subst (AllByRecursion (λ m. lost' m ≡ [])) (sym none) tt;
+          lost_met = all_none (λ m. [] ≡ lost_when (waiting_when (λ _. []) (came model p h) (given_at model p h m) m) m) none;
+          lost_only = λ lost' _. all_none (λ m. lost' m ≡ []) none;
           missed = [];
           missed_lost = sym (ap (flat_map (λ _. [])) none);
           came_rises = came_rises h (opening model p h);
-          given_came = rw g tt;
+          given_came = all_none (Contains (came model p h)) g;
           given_rises = rw g tt;
-          missed_came = tt;
+          missed_came = All-nil (Contains (came model p h));
           missed_once = tt;
-          given_not_missed = rw g tt;
+          given_not_missed = all_none (λ m. among m.number [] ≡ false) g;
           waiting = [];
           waiting_rest = sym (ap (λ xs. without (without xs []) (given p h)) none);
           waiting_rises = tt;
           waiting_room = omega arith;
-          fates = subst (AllByRecursion (λ m. ContainsAt (given p h) m ⊎ (ContainsAt [] m ⊎ ContainsAt [] m))) (sym none) tt;
-          missed_full = subst (AllByRecursion (λ m. LostIfFull [] (waiting_when (λ _. []) (came model p h) (given_at model p h m) m) m)) (sym none) tt;
+          fates = all_none (λ m. Contains (given p h) m ⊎ (Contains [] m ⊎ Contains [] m)) none;
+          missed_full = all_none (λ m. LostIfFull [] (waiting_when (λ _. []) (came model p h) (given_at model p h m) m) m) none;
           open_answers = λ w a run. at (Open w) a run ∙ ap (λ x. when_open x (refused 5) (cond (wantable w) done (refused 6))) (sym o);
           take_answers = λ a run. at Take a run ∙ ap (λ x. when_open x (oldest []) (refused 7)) (sym o);
           missed_answers = λ a run. at Missed a run ∙ ap (λ x. when_open x (told 0) (refused 7)) (sym o);
@@ -119,10 +122,11 @@ module _ {R : Type 0} (model : Model R) (follows : Follows model) where
         let gs = given p h in
         let lost = missed_by model p h in
         let rises = came_rises h (opening model p h) in
+        let kept : Message → Bool = λ m. not (among m.number lost) in
         let rest : without all lost ≡ gs ++ ws = sym (held_rest base fair_base F [] all rises al) ∙ eq in
-        let held-rises : Rises (gs ++ ws) = subst Rises rest (rises_kept _ all rises) in
-        let held-came : AllByRecursion (ContainsAt all) (gs ++ ws) = subst (AllByRecursion (ContainsAt all)) rest (all_kept_by _ (ContainsAt all) all (all_has_itself all)) in
-        let missed_came : AllByRecursion (ContainsAt all) lost = missed_all base fair_base F (ContainsAt all) [] all rises al (all_has_itself all) in
+        let held-rises : Rises (gs ++ ws) = subst Rises rest (rises_kept kept all rises) in
+        let held-came : All (Contains all) (gs ++ ws) = subst (All (Contains all)) rest (All-filter kept (Contains all) all (All-contains_itself all)) in
+        let missed_came : All (Contains all) lost = missed_all base fair_base F (Contains all) [] all rises al (All-contains_itself all) in
         let met = met_all base fair_base F all rises al in
         record {
           lost = lost_of base fair_base F all;
@@ -131,18 +135,18 @@ module _ {R : Type 0} (model : Model R) (follows : Follows model) where
           missed = lost;
           missed_lost = sym (ap (λ xs. flat_map (lost_of base fair_base F xs) all) (sym (append-nil all)) ∙ lost_joined base fair_base F [] all [] (subst Rises (sym (append-nil all)) rises));
           came_rises = rises;
-          given_came = (all_parts (ContainsAt all) gs ws held-came).0;
+          given_came = (all_parts (Contains all) gs ws held-came).0;
           given_rises = (parted gs ws held-rises).front;
           missed_came = missed_came;
           missed_once = missed_once base fair_base F [] all rises al;
-          given_not_missed = All-weaker _ _ (λ m e. not-true (among m.number lost) e) gs
-              (all_parts (λ m. not (among m.number lost) ≡ true) gs ws (subst (AllByRecursion (λ m. not (among m.number lost) ≡ true)) rest (kept_by_passes _ all))).0;
+          given_not_missed = λ k d l. not-true _
+              ((all_parts (λ m. kept m ≡ true) gs ws (subst (All (λ m. kept m ≡ true)) rest (filter_passes kept all))).0 k d l);
           waiting = ws;
           waiting_rest = sym (ap (λ xs. without xs gs) rest ∙ without_front gs ws held-rises);
           waiting_rises = (parted gs ws held-rises).back;
           waiting_room = rm;
           fates = fates all lost gs ws rises missed_came rest;
-          missed_full = All-weaker _ _ (λ m e. full _ _ m e) all met;
+          missed_full = λ k d l. full _ _ (get_or all k d) (met k d l);
           open_answers = λ x a run. at (Open x) a run ∙ ap (λ y. when_open y (refused 5) (cond (wantable x) done (refused 6))) (sym o);
           take_answers = λ a run. at Take a run ∙ take_is w ws count ∙ ap (λ y. when_open y (oldest ws) (refused 7)) (sym o);
           missed_answers = λ a run. at Missed a run ∙ ap told cnt ∙ ap (λ y. when_open y (told (length lost)) (refused 7)) (sym o);

@@ -1,7 +1,7 @@
 -- A walk over the messages that came to a port, oldest first: what it holds and misses on the way.
-use Rattle.std.proofs.Common.{◌≡◌, ℕ, ◌+◌, ◌≤◌, Bool, true, false, List, [], ◌∷◌, ◌++◌, length, drop, filter, sym, refl, ap, ◌∙◌, subst, append_assoc, add-zero, add_assoc, arith, length-append}
+use Rattle.std.proofs.Common.{◌≡◌, ℕ, suc, ◌+◌, ◌≤◌, Bool, true, false, List, [], ◌∷◌, ◌++◌, length, drop, filter, sym, refl, ap, ◌∙◌, subst, append_assoc, add-zero, add_assoc, arith, length-append}
 use lib.Seq.{drop-append_seam}
-use Rattle.std.specs.List.{AllByRecursion}
+use Rattle.std.specs.List.{All}
 use Rattle.reading.specs.declared.message.Message.{Message}
 use Rattle.reading.specs.Reading.{Model}
 use Rattle.law.specs.Calls.{wants, depth}
@@ -42,15 +42,15 @@ missed model p h = missed_among base (given_at model p h) [] (came model p h)
 
 module _ (π : Policy) where
   -- only what the port had given at each message's coming counts
-  pub held_same : (F G : Message → List Message) (held ms : List Message) → AllByRecursion (λ m. F m ≡ G m) ms → held_among π F held ms ≡ held_among π G held ms
+  pub held_same : (F G : Message → List Message) (held ms : List Message) → All (λ m. F m ≡ G m) ms → held_among π F held ms ≡ held_among π G held ms
   held_same F G held [] same = refl
   held_same F G held (m ∷ ms) same =
-      grind (arith, same.0, held_same F G (held_with π (G m) held m) ms same.1)
+      grind (arith, same 0 m (omega arith), held_same F G (held_with π (G m) held m) ms (λ k d l. same (suc k) d (omega arith)))
 
-  pub missed_same : (F G : Message → List Message) (held ms : List Message) → AllByRecursion (λ m. F m ≡ G m) ms → missed_among π F held ms ≡ missed_among π G held ms
+  pub missed_same : (F G : Message → List Message) (held ms : List Message) → All (λ m. F m ≡ G m) ms → missed_among π F held ms ≡ missed_among π G held ms
   missed_same F G held [] same = refl
   missed_same F G held (m ∷ ms) same =
-      grind (arith, same.0, missed_same F G (held_with π (G m) held m) ms same.1)
+      grind (arith, same 0 m (omega arith), missed_same F G (held_with π (G m) held m) ms (λ k d l. same (suc k) d (omega arith)))
 
   pub held_append : (F : Message → List Message) (held ms ns : List Message) → held_among π F held (ms ++ ns) ≡ held_among π F (held_among π F held ms) ns
   held_append F held [] ns = refl
@@ -83,23 +83,26 @@ module _ (π : Policy) where
   Along given_at held [] = Unit {0}
   Along given_at held (m ∷ ms) = ((ws : List Message) × (held ≡ given_at m ++ ws)) × Along given_at (held_with π (given_at m) held m) ms
 
-  pub along_same : (F G : Message → List Message) (held ms : List Message) → AllByRecursion (λ m. F m ≡ G m) ms → Along G held ms → Along F held ms
+  pub along_same : (F G : Message → List Message) (held ms : List Message) → All (λ m. F m ≡ G m) ms → Along G held ms → Along F held ms
   along_same F G held [] same a = tt
-  along_same F G held (m ∷ ms) same a = (
-    (a.0.0, a.0.1 ∙ ap (λ gs. gs ++ a.0.0) (sym same.0)),
-    subst (λ gs. Along F (held_with π gs held m) ms) (sym same.0) (along_same F G (held_with π (G m) held m) ms same.1 a.1),
-  )
+  along_same F G held (m ∷ ms) same a =
+      let here : F m ≡ G m = same 0 m (omega arith) in (
+        (a.0.0, a.0.1 ∙ ap (λ gs. gs ++ a.0.0) (sym here)),
+        subst (λ gs. Along F (held_with π gs held m) ms) (sym here) (along_same F G (held_with π (G m) held m) ms (λ k d l. same (suc k) d (omega arith)) a.1),
+      )
 
   pub along_append : (F : Message → List Message) (held ms ns : List Message) → Along F held ms → Along F (held_among π F held ms) ns → Along F held (ms ++ ns)
   along_append F held [] ns a b = b
   along_append F held (m ∷ ms) ns a b = (a.0, along_append F (held_with π (F m) held m) ms ns a.1 b)
 
-  pub along_still : (F : Message → List Message) (gs ws ms : List Message) → AllByRecursion (λ m. F m ≡ gs) ms → Along F (gs ++ ws) ms
+  pub along_still : (F : Message → List Message) (gs ws ms : List Message) → All (λ m. F m ≡ gs) ms → Along F (gs ++ ws) ms
   along_still F gs ws [] at = tt
-  along_still F gs ws (m ∷ ms) at = (
-    (ws, ap (λ x. x ++ ws) (sym at.0)),
-    subst (λ x. Along F x ms) (sym (ap (λ x. held_with π x (gs ++ ws) m) at.0 ∙ held_placed gs ws m)) (along_still F gs (π.place ws m) ms at.1),
-  )
+  along_still F gs ws (m ∷ ms) at =
+      let here : F m ≡ gs = at 0 m (omega arith) in (
+        (ws, ap (λ x. x ++ ws) (sym here)),
+        subst (λ x. Along F x ms) (sym (ap (λ x. held_with π x (gs ++ ws) m) here ∙ held_placed gs ws m))
+            (along_still F gs (π.place ws m) ms (λ k d l. at (suc k) d (omega arith))),
+      )
 
 pub placed_room : (room : ℕ) (ws : List Message) (m : Message) → length ws ≤ room → length (placed room ws m) ≤ room
 placed_room room ws m few = grind (arith, few, length-append ws (m ∷ []))
@@ -136,13 +139,14 @@ come_other F wanted gs ws count m ms w rest = record {
   room = rest.room;
 }
 
-pub come : (F : Message → List Message) (wanted : ℕ) (gs ws : List Message) (count : ℕ) (ms : List Message) → AllByRecursion (λ m. F m ≡ gs) ms → Come F wanted gs ws count ms
+pub come : (F : Message → List Message) (wanted : ℕ) (gs ws : List Message) (count : ℕ) (ms : List Message) → All (λ m. F m ≡ gs) ms → Come F wanted gs ws count ms
 come F wanted gs ws count [] at = record { waits = ws; misses = count; slot = refl; held = refl; missed = sym (add-zero count); room = λ few. few }
 come F wanted gs ws count (m ∷ ms) at =
-    by (come F wanted gs (placed depth ws m) (count + length (overflow depth ws m)) ms at.1) (come F wanted gs ws count ms at.1) (wants wanted m) refl
+    let later : All (λ x. F x ≡ gs) ms = λ k d l. at (suc k) d (omega arith) in
+    by (come F wanted gs (placed depth ws m) (count + length (overflow depth ws m)) ms later) (come F wanted gs ws count ms later) (wants wanted m) refl
   where
     by : Come F wanted gs (placed depth ws m) (count + length (overflow depth ws m)) ms → Come F wanted gs ws count ms → (b : Bool) → wants wanted m ≡ b → Come F wanted gs ws count (m ∷ ms)
-    by yes' no' true w = come_wanted F wanted gs ws count m ms at.0 w yes'
+    by yes' no' true w = come_wanted F wanted gs ws count m ms (at 0 m (omega arith)) w yes'
     by yes' no' false w = come_other F wanted gs ws count m ms w no'
 
 pub shut_stays : (ms : List Message) → all_arrived shut ms ≡ shut

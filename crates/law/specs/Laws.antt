@@ -1,6 +1,6 @@
 -- What the history of a run says of a port and of a pump.
 use Rattle.std.specs.Prelude.{◌≡◌, ℕ, ◌+◌, ◌<◌, ◌≤◌, min, Bool, true, false, cond, not, ltb, ◌⊎◌, List, [], ◌∷◌, length, drop, filter, ◌==◌, nat_lt}
-use Rattle.std.specs.List.{ContainsAt, flat_map, AllByRecursion}
+use Rattle.std.specs.List.{Contains, flat_map, All}
 use Rattle.reading.specs.declared.message.Message.{Message}
 use Rattle.reading.specs.Reading.{Model}
 use Rattle.law.specs.Calls.{Call, Pump, At, PortCall, Open, Take, Missed, Close, Answer, refused, done, passed, gave, told, wantable, depth, most_limit, most_bytes}
@@ -9,7 +9,7 @@ use Rattle.law.specs.Runs.{History, start, called, questioned, Opening, closed, 
 -- Each message's number is below those of all that stand behind it.
 abbrev pub Rises : List Message → Type 0
 Rises [] = Unit {0}
-Rises (m ∷ ms) = AllByRecursion (λ x. m.number < x.number) ms × Rises ms
+Rises (m ∷ ms) = All (λ x. m.number < x.number) ms × Rises ms
 
 -- A message with this number stands in the list.
 abbrev pub among : ℕ → List Message → Bool
@@ -88,29 +88,29 @@ module _ {R : Type 0} (model : Model R) (Run : History R → Type 0) where
     -- Messages come in strictly rising number.
     pub came_rises : Rises (came model p h)
     -- Only what came is given, in strictly rising number, so none twice.
-    pub given_came : AllByRecursion (ContainsAt (came model p h)) (given p h)
+    pub given_came : All (Contains (came model p h)) (given p h)
     pub given_rises : Rises (given p h)
     -- What the port lost as each message came: that message, if it met sixteen waiting, and else nothing.
     pub lost : Message → List Message
-    pub lost_met : AllByRecursion (λ m. lost m ≡ lost_when (waiting_when lost (came model p h) (given_at model p h m) m) m) (came model p h)
+    pub lost_met : All (λ m. lost m ≡ lost_when (waiting_when lost (came model p h) (given_at model p h m) m) m) (came model p h)
     -- That says of each message whether it was lost: no other account is right.
-    pub lost_only : (lost' : Message → List Message) → AllByRecursion (λ m. lost' m ≡ lost_when (waiting_when lost' (came model p h) (given_at model p h m) m) m) (came model p h)
-        → AllByRecursion (λ m. lost' m ≡ lost m) (came model p h)
+    pub lost_only : (lost' : Message → List Message) → All (λ m. lost' m ≡ lost_when (waiting_when lost' (came model p h) (given_at model p h m) m) m) (came model p h)
+        → All (λ m. lost' m ≡ lost m) (came model p h)
     -- All this was missed: only what came, none twice, and nothing that is given.
     pub missed : List Message
     pub missed_lost : missed ≡ flat_map lost (came model p h)
-    pub missed_came : AllByRecursion (ContainsAt (came model p h)) missed
+    pub missed_came : All (Contains (came model p h)) missed
     pub missed_once : Apart missed
-    pub given_not_missed : AllByRecursion (λ m. among m.number missed ≡ false) (given p h)
+    pub given_not_missed : All (λ m. among m.number missed ≡ false) (given p h)
     -- The rest of what came waits, in rising number; never more than sixteen.
     pub waiting : List Message
     pub waiting_rest : waiting ≡ without (without (came model p h) missed) (given p h)
     pub waiting_rises : Rises waiting
     pub waiting_room : length waiting ≤ depth
     -- Each message that came was given, was missed, or waits.
-    pub fates : AllByRecursion (λ m. ContainsAt (given p h) m ⊎ (ContainsAt missed m ⊎ ContainsAt waiting m)) (came model p h)
+    pub fates : All (λ m. Contains (given p h) m ⊎ (Contains missed m ⊎ Contains waiting m)) (came model p h)
     -- A message was lost exactly if sixteen waited when it came.
-    pub missed_full : AllByRecursion (λ m. LostIfFull (lost m) (waiting_when lost (came model p h) (given_at model p h m) m) m) (came model p h)
+    pub missed_full : All (λ m. LostIfFull (lost m) (waiting_when lost (came model p h) (given_at model p h m) m) m) (came model p h)
     -- An open is refused by an open port, and else for what is no sum of kinds.
     pub open_answers : (wanted : ℕ) (a : Answer) → Run (called h (At p (Open wanted)) a)
         → a ≡ when_open (opening model p h) (refused 5) (cond (wantable wanted) done (refused 6))
