@@ -3,7 +3,9 @@ ghost use Rattle.std.specs.Prelude.{◌≡◌, ◌<◌, ◌≤◌, ◌==◌, tru
 ghost use Rattle.std.specs.Result.{MatchResult};
 ghost use Rattle.reading.specs.Kinds.{kind_bit};
 ghost use Rattle.law.specs.Calls.{wantable};
+ghost use Rattle.ports.specs.declared.refusal.OpenRefusal.TheVariants.{BadKinds};
 
+use crate::refusal::OpenRefusal;
 use reading::message::Kind;
 
 // The sum of the bits of all kinds.
@@ -17,10 +19,6 @@ pub struct Kinds {
     ghost known: { sum ≤ 31 },
 }
 
-// A number that is no sum of kinds.
-#[derive(Clone, Copy)]
-pub struct NoKinds;
-
 impl Kinds {
     pub fn contains(self, kind: Kind) -> bool
         ensures value { result ≡ not (bit_and self.sum (kind_bit kind) == 0) }
@@ -30,13 +28,13 @@ impl Kinds {
 }
 
 impl TryFrom<u32> for Kinds {
-    type Error = NoKinds;
+    type Error = OpenRefusal;
 
-    ghost try_from_gives = { λ sum r. MatchResult r (λ kinds. (wantable sum ≡ true) × (kinds.sum ≡ sum)) (λ _. wantable sum ≡ false) };
+    ghost try_from_gives = { λ sum r. MatchResult r (λ kinds. (wantable sum ≡ true) × (kinds.sum ≡ sum)) (λ e. (e ≡ BadKinds sum) × (wantable sum ≡ false)) };
 
-    fn try_from(sum: u32) -> Result<Kinds, NoKinds> {
+    fn try_from(sum: u32) -> Result<Kinds, OpenRefusal> {
         if sum == 0 || sum > ALL_KINDS {
-            return Err(NoKinds);
+            return Err(OpenRefusal::BadKinds(sum));
         }
         Ok(Kinds { sum: sum as u8 })
     }

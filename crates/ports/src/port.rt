@@ -40,7 +40,7 @@ impl Port {
         if self.wanted.is_some() {
             return Err(OpenRefusal::AlreadyOpen(port));
         }
-        let kinds = Kinds::try_from(wanted).map_err(|_| OpenRefusal::BadKinds(wanted))?;
+        let kinds = Kinds::try_from(wanted)?;
         self.wanted = Some(kinds);
         self.queue.clear();
         self.missed = 0;
