@@ -4,7 +4,7 @@ ghost use Rattle.gateway.specs.Passing.{pump_number};
 
 use std::fmt;
 
-#[derive(Clone, Copy, Debug)]
+#[derive(Clone, Copy, PartialEq, Eq, Debug)]
 pub enum PumpRefusal {
     // A limit of 0 or above 4,096.
     BadLimit(u32),

@@ -6,7 +6,7 @@ ghost use Rattle.ports.specs.Refusals.{open_number, take_number, port_number};
 use std::fmt;
 
 // `NoPort` stands here and below: to nest a type for it would give each caller one more level to match, for one shared text.
-#[derive(Clone, Copy, Debug)]
+#[derive(Clone, Copy, PartialEq, Eq, Debug)]
 pub enum OpenRefusal {
     NoPort(u32),
     AlreadyOpen(u32),
@@ -45,7 +45,7 @@ impl fmt::Display for OpenRefusal {
     }
 }
 
-#[derive(Clone, Copy, Debug)]
+#[derive(Clone, Copy, PartialEq, Eq, Debug)]
 pub enum PortRefusal {
     NoPort(u32),
     NotOpen(u32),
@@ -75,7 +75,7 @@ impl fmt::Display for PortRefusal {
     }
 }
 
-#[derive(Clone, Copy, Debug)]
+#[derive(Clone, Copy, PartialEq, Eq, Debug)]
 pub enum TakeRefusal {
     Port(PortRefusal),
     NothingWaits(u32),

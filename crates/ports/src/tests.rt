@@ -30,6 +30,6 @@ fn a_port_fills_and_is_emptied(rt: HostRuntime) -> Result<(), Fail> {
     assert_eq!(rt; bank.close(3)?, 14);
     bank.open(3, 4)?;
     assert_eq!(rt; bank.missed(3)?, 0);
-    assert!(rt; matches!(bank.take(3), Err(TakeRefusal::NothingWaits(3))));
+    assert_eq!(rt; bank.take(3), Err(TakeRefusal::NothingWaits(3)));
     Ok(())
 }
