@@ -8,6 +8,9 @@ use reading::family::Family;
 mod feed;
 mod questions;
 
+// A reader reads at most so many bytes.
+pub const MOST_BYTES: u64 = 0x100_0000_0000;
+
 #[derive(Drop)]
 pub struct Reader<F: Family> {
     window: Window,

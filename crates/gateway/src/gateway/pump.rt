@@ -13,14 +13,11 @@ use crate::gateway::Gateway;
 use crate::refusal::PumpRefusal;
 use line::line::Line;
 use ports::bank::Bank;
-use reader::reader::Reader;
+use reader::reader::{MOST_BYTES, Reader};
 use reading::family::Family;
 
 // The most bytes that one pump passes.
 const MOST_LIMIT: u32 = 4096;
-
-// The most bytes that all pumps pass.
-const MOST_BYTES: u64 = 0x100_0000_0000;
 
 // A line is asked for at most so many bytes at once.
 const CHUNK: usize = 1024;

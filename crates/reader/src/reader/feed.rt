@@ -4,15 +4,12 @@ ghost use Rattle.reader.specs.Progress.{Bounds};
 ghost use Rattle.reader.specs.Standing.{Stands, Fed, Ran};
 
 use crate::ledger::Ledger;
-use crate::reader::Reader;
+use crate::reader::{MOST_BYTES, Reader};
 use crate::scan::scan;
 use crate::window::Window;
 use reading::family::Family;
 use reading::refusal::Refusal;
 use reading::sink::Sink;
-
-// A reader reads at most so many bytes.
-const LIMIT: u64 = 0x100_0000_0000;
 
 // No packet of a family is longer.
 const LONGEST: usize = 264;
@@ -66,7 +63,7 @@ impl<F: Family> Reader<F> {
         ensures fed { Fed F.model S.took self.old «bytes».now sink.old self.new sink.new result }
         ensures counted { OnOk result (self.new.pumped ≡ self.old.pumped + length «bytes».now) }
     {
-        if bytes.len() as u64 > LIMIT - self.pumped {
+        if bytes.len() as u64 > MOST_BYTES - self.pumped {
             return Err(Refusal::PastLimit);
         }
         for block in bytes.chunks(BLOCK) {
