@@ -5,24 +5,15 @@ use Rattle.reading.specs.Reading.{Model, Laws}
 use Rattle.reading.proofs.Counted.{keeps}
 use Rattle.law.specs.Calls.{shown_of}
 use Rattle.law.specs.Runs.{History, pumped}
-use Rattle.law.specs.States.{State}
-use Rattle.law.proofs.Follows.{Follows, follows_laws}
 use Rattle.law.proofs.Laws.{Reachable, pump_answers, shown_answers, port, no_port, refused_still, missed_still, shown_still}
 use Rattle.law.proofs.Alike.{alike}
-use Rattle.ports.specs.Ports.{slots_of}
 use Rattle.gateway.specs.declared.gateway.Gateway.{Gateway}
 use Rattle.gateway.specs.Standing.{Represents}
 use Rattle.gateway.specs.Law.{Run, Same, RunLaw}
-use Rattle.gateway.proofs.Running.{showing_reads}
+use Rattle.gateway.proofs.Running.{follows, state_of, showing_reads}
 
 module _ (F : Type 0) {R : Type 0} (G : Ghosts F R) (model : Model R) (laws : Laws model) where
-  follows : Follows model
-  follows = follows_laws model laws
-
-  abbrev state_of : Gateway F R G → History R → State
-  state_of g h = record { bytes = pumped h; slots = slots_of g.bank }
-
-  real : (h : History R) → Run F G model h → Reachable model follows h
+  real : (h : History R) → Run F G model h → Reachable model (follows model laws) h
   real h run = (state_of run.0 h, run.1.run)
 
   same : (g g' : Gateway F R G) (h h' : History R) → Represents model g h → Represents model g' h' → state_of g' h' ≡ state_of g h → Same g g'
@@ -35,19 +26,20 @@ module _ (F : Type 0) {R : Type 0} (G : Ghosts F R) (model : Model R) (laws : La
   pub law : (h : History R) → Run F G model h → RunLaw F G model h
   law h run =
       let k = keeps model laws in
+      let on = follows model laws in
       let g = run.0 in
       let rep = run.1 in
       record {
         reads = λ g₁ rep₁ q. showing_reads model laws g₁ (pumped h) rep₁.reads q;
-        shown = λ q s run'. shown_answers model follows h q s (real _ run');
+        shown = λ q s run'. shown_answers model on h q s (real _ run');
         bytes = k.bytes (pumped h);
         short = k.short (pumped h);
         few = omega (arith, rep.reads.pumped, g.reader.few);
-        pump = λ limit waits a run'. pump_answers model follows h limit waits a (real _ run');
-        port = λ p below. port model follows (Run F G model) real h run p below;
-        no_port = λ p c a above run'. no_port model follows h p c a above (real _ run');
-        refused_still = λ g₁ g₂ c n rep₁ rep₂. same g₁ g₂ h _ rep₁ rep₂ (refused_still model follows h _ _ c n rep₁.run rep₂.run);
-        missed_still = λ g₁ g₂ p a rep₁ rep₂. same g₁ g₂ h _ rep₁ rep₂ (missed_still model follows h _ _ p a rep₁.run rep₂.run);
-        shown_still = λ g₁ g₂ q s rep₁ rep₂. same g₁ g₂ h _ rep₁ rep₂ (shown_still model follows h _ _ q s rep₁.run rep₂.run);
-        alike = λ p h' run' e. alike model follows p rep.run run'.1.run e;
+        pump = λ limit waits a run'. pump_answers model on h limit waits a (real _ run');
+        port = λ p below. port model on (Run F G model) real h run p below;
+        no_port = λ p c a above run'. no_port model on h p c a above (real _ run');
+        refused_still = λ g₁ g₂ c n rep₁ rep₂. same g₁ g₂ h _ rep₁ rep₂ (refused_still model on h _ _ c n rep₁.run rep₂.run);
+        missed_still = λ g₁ g₂ p a rep₁ rep₂. same g₁ g₂ h _ rep₁ rep₂ (missed_still model on h _ _ p a rep₁.run rep₂.run);
+        shown_still = λ g₁ g₂ q s rep₁ rep₂. same g₁ g₂ h _ rep₁ rep₂ (shown_still model on h _ _ q s rep₁.run rep₂.run);
+        alike = λ p h' run' e. alike model on p rep.run run'.1.run e;
       }

@@ -35,26 +35,30 @@ handed_slots b (m ∷ ms) b' h few =
     let more : most_missed (slots_of h.0) ≤ most_missed (slots_of b) + 1 = subst (λ ss. most_missed ss ≤ most_missed (slots_of b) + 1) (sym first) (most_published (slots_of b) m) in
     handed_slots h.0 ms b' h.2 (omega (arith, more)) ∙ ap (λ ss. all_published_to ss ms) first
 
+-- The state of a run that a gateway is in.
+abbrev pub state_of : {F R : Type 0} {G : Ghosts F R} → Gateway F R G → History R → State
+state_of g h = record { bytes = pumped h; slots = slots_of g.bank }
+
 -- A call of a port takes the run one call on.
 pub goes_port : {F R : Type 0} {G : Ghosts F R} (model : Model R) (g g' : Gateway F R G) (p : ℕ) (c : PortCall) (a : Answer) (h : History R) → Represents model g h →
     a ≡ port_answer (slots_of g.bank) p c → slots_of g'.bank ≡ port_after (slots_of g.bank) p c → g'.reader ≡ g.reader → Represents model g' (called h (At p c) a)
 goes_port model g g' p c a h rep answered changed kept =
     record {
       reads = subst (λ r. Stands model r (pumped h)) (sym kept) rep.reads;
-      run = subst (λ x. Reached model (record { bytes = pumped h; slots = slots_of g'.bank }) (called h (At p c) x)) (sym answered)
+      run = subst (λ x. Reached model (state_of g' h) (called h (At p c) x)) (sym answered)
           (subst (λ ss. Reached model (record { bytes = pumped h; slots = ss }) (called h (At p c) (port_answer (slots_of g.bank) p c))) (sym changed) (goes rep.run (At p c)));
     }
 
 -- A question takes the run one question on.
 pub goes_asked : {F R : Type 0} {G : Ghosts F R} (model : Model R) (g : Gateway F R G) (q : Question) (s : Shown R) (h : History R) → Represents model g h → s ≡ shown_of model (pumped h) q → Represents model g (questioned h q s)
 goes_asked model g q s h rep is =
-    record { reads = rep.reads; run = subst (λ x. Reached model (record { bytes = pumped h; slots = slots_of g.bank }) (questioned h q x)) (sym is) (asks rep.run q) }
+    record { reads = rep.reads; run = subst (λ x. Reached model (state_of g h) (questioned h q x)) (sym is) (asks rep.run q) }
 
 pub begins_new : {F R : Type 0} {G : Ghosts F R} (model : Model R) (g : Gateway F R G) → Stands model g.reader [] → slots_of g.bank ≡ new_ports → Represents model g start
 begins_new model g st new = record { reads = st; run = subst (λ ss. Reached model (record { bytes = []; slots = ss }) start) (sym new) begins }
 
 module _ {R : Type 0} (model : Model R) (laws : Laws model) where
-  follows : Follows model
+  pub follows : Follows model
   follows = follows_laws model laws
 
   fresh_length : (bs more : List ℕ) → length (messages_of model (bs ++ more)) ≡ length (messages_of model bs) + length (fresh model bs more)
@@ -74,9 +78,6 @@ module _ {R : Type 0} (model : Model R) (laws : Laws model) where
   most_run (asks {g} {h} r q) = most_run r
 
   module _ {F : Type 0} {G : Ghosts F R} where
-    abbrev state_of : Gateway F R G → History R → State
-    state_of g h = record { bytes = pumped h; slots = slots_of g.bank }
-
     pub goes_pump : (g g' : Gateway F R G) (limit : ℕ) (W rest : List ℕ) (d : ℕ) → 0 < limit → limit ≤ 4096 → g.reader.pumped + limit ≤ 2 ^ 40 → d ≡ min limit (length W) → rest ≡ drop d W →
         Ran model Took g.reader g.bank (take d W) g'.reader g'.bank → GoesOn model g g' (Pump limit W) (passed d rest)
     goes_pump g g' limit W rest d some most room d-is rest-is ran h rep =
