@@ -53,7 +53,11 @@ abbrev pub Handed : {S : Type 0} → (S → Message → S → Type 0) → S → 
 Handed took s [] u = s ≡ u
 Handed {S} took s (x ∷ xs) u = (v : S) × took s x v × Handed took v xs u
 
+-- How many bytes came, where `left` of them are neither accepted nor skipped.
+abbrev pub seen : {R : Type 0} → Ledger R → ℕ → ℕ
+seen l left = l.accepted + l.skipped + left
+
 -- One more message has a number, and n more bytes have places.
 pub record Room {R : Type 0} (l : Ledger R) (n : ℕ) : Type 0 where
   pub number : l.messages + 1 < 2 ^ 64
-  pub place : l.accepted + l.skipped + n < 2 ^ 64
+  pub place : seen l n < 2 ^ 64

@@ -3,7 +3,7 @@ use Rattle.std.specs.Prelude.{◌≡◌, ℕ, ◌+◌, ◌*◌, ◌^◌, ◌≤�
 use Rattle.reading.specs.declared.message.Message.{Message}
 use Rattle.reader.specs.declared.ledger.Ledger.{Ledger}
 use Rattle.reading.specs.Reading.{Model, Tally, Quiet, resumed}
-use Rattle.reader.specs.Ledgers.{Agrees, Handed, after_quiet}
+use Rattle.reader.specs.Ledgers.{Agrees, Handed, after_quiet, seen}
 
 -- What is left of bs behind some of its first bytes.
 pub record LeftOf (bs rest : List ℕ) : Type 0 where
@@ -33,7 +33,7 @@ Moves {R} m took l rest n s l' rest' n' s' = (t : Tally R) → Agrees l t → Mo
 
 -- What bounds the counts where `left` bytes are left, and n of their prefixes are judged.
 pub record Bounds {R : Type 0} (l : Ledger R) (left n : ℕ) : Type 0 where
-  pub few : l.accepted + l.skipped + left ≤ 2 ^ 40
+  pub few : seen l left ≤ 2 ^ 40
   pub told : l.messages ≤ 4096 * (l.accepted + l.skipped) + n
   pub told_left : l.messages ≤ 4096 * (l.accepted + l.skipped) + left
   pub whole : l.whole ≤ l.accepted

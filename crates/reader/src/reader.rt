@@ -1,5 +1,6 @@
 // The reader of a stream: a window over the bytes that are held, and the ledger of what was read before them.
 ghost use Rattle.std.specs.Prelude.{◌≡◌, ◌+◌, ◌*◌, ◌^◌, ◌<◌, ◌≤◌};
+ghost use Rattle.reader.specs.Ledgers.{seen};
 
 use crate::ledger::Ledger;
 use crate::window::Window;
@@ -16,7 +17,7 @@ pub struct Reader<F: Family> {
     window: Window,
     ledger: Ledger<F::Record>,
     pumped: u64,
-    ghost all: { ledger.accepted + ledger.skipped + window.held ≡ pumped },
+    ghost all: { seen ledger window.held ≡ pumped },
     ghost few: { pumped ≤ 2 ^ 40 },
     ghost told: { ledger.messages ≤ 4096 * (ledger.accepted + ledger.skipped) + window.held },
     ghost whole: { ledger.whole ≤ ledger.accepted },

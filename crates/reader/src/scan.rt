@@ -1,5 +1,6 @@
 // The prefixes at a place are judged, place after place.
 ghost use Rattle.std.specs.Prelude.{◌≡◌, ◌+◌, ◌-◌, ◌*◌, ◌^◌, ◌<◌, ◌≤◌, [], length, drop};
+ghost use Rattle.reader.specs.Ledgers.{seen};
 ghost use Rattle.reader.specs.Progress.{LeftOf, PassedOver, Moves, Bounds};
 ghost use Rattle.reading.specs.Reading.{Waits};
 
@@ -40,7 +41,7 @@ fn step<'a, F: Family, S: Sink>(
     requires bounds { Bounds ledger.old (length cursor.rest.now) (cursor.next - 1) }
     ensures left { LeftOf cursor.entry.rest.now result.rest.now }
     ensures bounds { Bounds ledger.new (length result.rest.now) (result.next - 1) }
-    ensures all { ledger.new.accepted + ledger.new.skipped + length result.rest.now ≡ ledger.old.accepted + ledger.old.skipped + length cursor.entry.rest.now }
+    ensures all { seen ledger.new (length result.rest.now) ≡ seen ledger.old (length cursor.entry.rest.now) }
     ensures falls { 4098 * length result.rest.now + (4097 - result.next) < 4098 * length cursor.entry.rest.now + (4097 - cursor.entry.next) }
     ensures moves { Moves F.model S.took ledger.old cursor.entry.rest.now (cursor.entry.next - 1) sink.old ledger.new result.rest.now (result.next - 1) sink.new }
 {
@@ -81,7 +82,7 @@ pub(crate) fn scan<F: Family, S: Sink>(
     requires bounds { Bounds ledger.old (length bytes.now) (next - 1) }
     ensures within { result ≤ length bytes.now }
     ensures bounds { Bounds ledger.new result result }
-    ensures all { ledger.new.accepted + ledger.new.skipped + result ≡ ledger.old.accepted + ledger.old.skipped + length bytes.now }
+    ensures all { seen ledger.new result ≡ seen ledger.old (length bytes.now) }
     ensures moves { Moves F.model S.took ledger.old bytes.now (next - 1) sink.old ledger.new (drop (length bytes.now - result) bytes.now) result sink.new }
 {
     let mut cursor = Cursor { rest: bytes, next };

@@ -1,5 +1,6 @@
 // Feeding a reader: block after block goes behind what is held, and all that can be judged is judged.
 ghost use Rattle.std.specs.Prelude.{◌≡◌, ◌+◌, ◌^◌, ◌<◌, ◌≤◌, [], length, OnOk};
+ghost use Rattle.reader.specs.Ledgers.{seen};
 ghost use Rattle.reader.specs.Progress.{Bounds};
 ghost use Rattle.reader.specs.Standing.{Stands, Fed, Ran};
 
@@ -22,7 +23,7 @@ fn make_room<R>(window: &mut Window, ledger: &mut Ledger<R>)
     requires bounds { Bounds ledger.old window.old.held window.old.held }
     ensures short { window.new.held < 264 }
     ensures bounds { Bounds ledger.new window.new.held window.new.held }
-    ensures all { ledger.new.accepted + ledger.new.skipped + window.new.held ≡ ledger.old.accepted + ledger.old.skipped + window.old.held }
+    ensures all { seen ledger.new window.new.held ≡ seen ledger.old window.old.held }
     ensures kept { window.old.held < 264 → (window.new ≡ window.old) × (ledger.new ≡ ledger.old) }
 {
     let held = window.held();

@@ -1,4 +1,5 @@
 use Rattle.std.proofs.Common.{◌≡◌, ◌+◌, ◌-◌, ◌*◌, ◌≤◌, length}
+use Rattle.reader.specs.Ledgers.{seen}
 use Rattle.reader.specs.Progress.{LeftOf, Moves, Bounds}
 use Rattle.reader.proofs.scan.scan.Given as goal
 
@@ -10,7 +11,7 @@ invariant-loop-cursor g l =
       left : LeftOf l.bytes rest;
       some : 1 ≤ l.cursor.1.0;
       bounds : Bounds l.ledger (length rest) n;
-      all : l.ledger.accepted + l.ledger.skipped + length rest ≡ l.initial.ledger.accepted + l.initial.ledger.skipped + length l.bytes;
+      all : seen l.ledger (length rest) ≡ seen l.initial.ledger (length l.bytes);
       moves : Moves g.F.Family.model g.S.Sink.took l.initial.ledger l.bytes (l.initial.cursor.1.0 - 1) l.initial.sink l.ledger rest n l.sink;
     }
 
