@@ -4,6 +4,7 @@ ghost use Rattle.gateway.specs.Passing.{pump_number};
 
 use std::fmt;
 
+// Two ways to be refused, so no `Option` or `Result`.
 #[derive(Clone, Copy, PartialEq, Eq, Debug)]
 pub enum PumpRefusal {
     // A limit of 0 or above 4,096.

@@ -21,6 +21,7 @@ pub struct Bank {
 }
 
 // Where the port of that number stands; none if there is no such port.
+// The ports are reached by index: `get_mut` was tried, and the proof didn't close, since behind it nothing is known of any port.
 fn index_of(port: u32) -> Option<usize>
     ensures index { SomeIff result (port < ports) port }
 {

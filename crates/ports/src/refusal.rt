@@ -45,6 +45,7 @@ impl fmt::Display for OpenRefusal {
     }
 }
 
+// Two ways to be refused, so no `Option` or `Result`.
 #[derive(Clone, Copy, PartialEq, Eq, Debug)]
 pub enum PortRefusal {
     NoPort(u32),
@@ -75,6 +76,7 @@ impl fmt::Display for PortRefusal {
     }
 }
 
+// Two ways to be refused, so no `Option` or `Result`.
 #[derive(Clone, Copy, PartialEq, Eq, Debug)]
 pub enum TakeRefusal {
     Port(PortRefusal),

@@ -5,6 +5,7 @@ ghost use Rattle.reader.specs.Ledgers.{blank, after_telling, after_quiet, after_
 use reading::message::{Body, Defect, Kind, Message};
 use reading::sink::Sink;
 
+// `Counts` has what the window holds besides, and callers read its numbers flat: a struct of numbers inside both would be no plainer.
 #[derive(Drop)]
 pub struct Ledger<R> {
     pub accepted: u64,

@@ -1,4 +1,4 @@
-// A family of packets: its longest length, its verdicts and its record. Three laws are all that a new family owes.
+// A family of packets: its longest length, its verdicts and its record. A new family owes the laws of its model, and its longest length as a constant.
 ghost use Rattle.std.specs.Prelude.{◌≡◌, ℕ, ◌<◌, ◌≤◌, length};
 ghost use Rattle.reading.specs.Reading.{Model, Laws, Waits, Quiet};
 

@@ -69,6 +69,7 @@ pub enum Verdict {
 }
 
 // A message has a number, from 1 upward, and the place of the bytes that it tells of.
+// A body's parts stand flat beside them, since every program reads and prints them so: a `Body` inside would be no plainer.
 #[derive(Clone, Copy, PartialEq, Eq, Debug)]
 pub struct Message {
     pub kind: Kind,
