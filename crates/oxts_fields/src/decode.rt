@@ -12,11 +12,11 @@ fn pattern(bytes: &[u8; 8], layout: Layout) -> u32
     let place = layout.place as usize;
     let byte = byte_at(bytes, place);
     match layout.form {
-        Form::Unsigned1 | Form::UpperSeven => byte as u32,
-        Form::Unsigned2 | Form::Signed2 => u16::from_le_bytes(bytes_at(bytes, place)) as u32,
+        Form::Unsigned1 | Form::UpperSeven => u32::from(byte),
+        Form::Unsigned2 | Form::Signed2 => u32::from(u16::from_le_bytes(bytes_at(bytes, place))),
         Form::Unsigned4 | Form::Signed4 => u32::from_le_bytes(bytes_at(bytes, place)),
-        Form::LowNibble => (byte & 0x0F) as u32,
-        Form::HighNibble => (byte >> 4) as u32,
+        Form::LowNibble => u32::from(byte & 0x0F),
+        Form::HighNibble => u32::from(byte >> 4),
     }
 }
 
@@ -25,10 +25,10 @@ fn value(form: Form, pattern: u32) -> i64
     ensures value { result ≡ value_of form pattern }
 {
     match form {
-        Form::Signed2 => ((pattern & 0xFFFF) as u16).cast_signed() as i64,
-        Form::Signed4 => pattern.cast_signed() as i64,
-        Form::UpperSeven => (((pattern & 0xFF) as u8).cast_signed() >> 1) as i64,
-        _ => pattern as i64,
+        Form::Signed2 => i64::from(((pattern & 0xFFFF) as u16).cast_signed()),
+        Form::Signed4 => i64::from(pattern.cast_signed()),
+        Form::UpperSeven => i64::from(((pattern & 0xFF) as u8).cast_signed() >> 1),
+        _ => i64::from(pattern),
     }
 }
 
@@ -38,8 +38,8 @@ fn valid(bytes: &[u8; 8], rule: Rule, pattern: u32, value: i64) -> bool
 {
     match rule {
         Rule::Always => true,
-        Rule::AtLeast(least) => value >= least as i64,
-        Rule::Above(least) => value > least as i64,
+        Rule::AtLeast(least) => value >= i64::from(least),
+        Rule::Above(least) => value > i64::from(least),
         Rule::UpTo(most) => pattern <= most,
         Rule::Below(limit) => pattern < limit,
         Rule::Not(none) => pattern != none,

@@ -78,7 +78,7 @@ pub fn field_table() -> &'static [Run; 41]
 }
 
 impl Formats {
-    // The two pairs that do not fit are matched: a test for each format would say the same four times.
+    // The two pairs that do not fit, in one match: a comparison would need the `Option` that the rows do without.
     fn serve(self, format: Format) -> bool
         ensures value { result ≡ serves self format }
     {
