@@ -35,6 +35,7 @@ fn has_sync(block: &[u8]) -> bool
 
 // How many of the first bytes lie in blocks of 16 without a sync byte. The library's search was tried here: it takes half
 // as long again where the next sync byte is a packet away, and up to four times as long where it is nearer.
+// `within` and `none` stand in both of the next two: a struct of slice and number would be taken apart by `quiet` at once.
 fn quiet_blocks(bytes: &[u8]) -> usize
     ensures within { result ≤ length bytes.now }
     ensures none { NoSync bytes.now result }
@@ -44,6 +45,7 @@ fn quiet_blocks(bytes: &[u8]) -> usize
         if has_sync(block) {
             return n;
         }
+        // The bytes of the blocks that the `for` has gone over.
         n += 16;
     }
     n

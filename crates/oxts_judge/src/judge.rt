@@ -52,16 +52,22 @@ fn judge_sync(bytes: &[u8]) -> Verdict
     }
 }
 
+// The structure that byte 21 stands for.
+fn structure_in(packet: &[u8]) -> Option<Structure>
+    ensures value { result ≡ structure_in packet.now }
+{
+    structure_of(byte_at(packet, 21))
+}
+
 // 22 bytes: the navigation status.
 fn judge_status(bytes: &[u8]) -> Verdict
     ensures value { result ≡ status_verdict (structure_in bytes.now) (slice_index bytes.now 21) }
 {
-    let found = byte_at(bytes, 21);
-    match structure_of(found) {
+    match structure_in(bytes) {
         Some(_) => Verdict::Wait,
         None => Verdict::Fault(Defect {
             cause: Cause::Status.number(),
-            found,
+            found: byte_at(bytes, 21),
             expected: 0,
         }),
     }
@@ -74,7 +80,7 @@ fn judge_early<B: FnOnce(&[u8]) -> Body>(bytes: &[u8], cause: Cause, body: B) ->
     ensures value { (told : List ℕ → Body) → ((b : Body) → FnOnceReturnsAt B.FnOnce body bytes.now b → b ≡ told bytes.now)
         → result ≡ early_verdict cause told (length bytes.now - 1) (structure_in bytes.now) bytes.now }
 {
-    match structure_of(byte_at(bytes, 21)) {
+    match structure_in(bytes) {
         Some(Structure::StructureA) => match sum_defect(bytes, cause) {
             None => Verdict::Early(body(bytes)),
             Some(defect) => Verdict::Fault(defect),
@@ -87,7 +93,7 @@ fn judge_early<B: FnOnce(&[u8]) -> Body>(bytes: &[u8], cause: Cause, body: B) ->
 fn judge_packet(format: Format, bytes: &[u8]) -> Verdict
     ensures value { result ≡ whole_verdict format (length bytes.now - 1) (structure_in bytes.now) bytes.now }
 {
-    let Some(structure) = structure_of(byte_at(bytes, 21)) else {
+    let Some(structure) = structure_in(bytes) else {
         return Verdict::Wait;
     };
     sum_defect(bytes, Cause::PacketSum).map_or_else(
@@ -97,6 +103,8 @@ fn judge_packet(format: Format, bytes: &[u8]) -> Verdict
 }
 
 // Between these lengths nothing is judged. Each length is a rule of the formats, so they stand in one match and not as steps to be handed in.
+// Format and bytes stay two parameters: a verdict is asked of one prefix after another and the family gives the format each
+// time, so a struct of both would be made to be taken apart at once.
 pub fn judge(format: Format, bytes: &[u8]) -> Verdict
     ensures value { result ≡ judge_of format bytes.now }
 {
