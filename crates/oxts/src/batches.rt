@@ -7,7 +7,7 @@ use crate::words::{byte_at, bytes_at, read_i24};
 use std::fmt;
 
 // Three signed 24-bit words.
-#[derive(Clone, Copy)]
+#[derive(Clone, Copy, Default)]
 pub struct Vector {
     pub x: i32,
     pub y: i32,
@@ -24,7 +24,7 @@ pub struct Inertial {
 
 // Batch B: latitude and longitude (the patterns of 64-bit floats, rad), altitude (the pattern of a 32-bit float, m),
 // velocity north, east, down (10^-4 m/s) and heading, pitch, roll (10^-6 rad).
-#[derive(Clone, Copy)]
+#[derive(Clone, Copy, Default)]
 pub struct Solution {
     pub latitude: i64,
     pub longitude: i64,

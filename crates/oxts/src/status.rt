@@ -11,7 +11,7 @@ pub enum Structure {
 }
 
 // The structure that a navigation status stands for; none for a status that is reserved.
-// A rule of the project has this as one match of ranges and a guard, so 20 to 22 is not a third range.
+// A rule of the project (docs/DECISIONS.md, "Forms") has this as one match of ranges and a guard, so 20 to 22 is not a third range.
 pub fn structure_of(status: u8) -> Option<Structure>
     ensures value { result ≡ structure_of status }
 {

@@ -5,8 +5,8 @@ ghost use Rattle.oxts_record.specs.Snapshots.{first_snapshot, nothing_valid, ine
 use oxts::batches::{Solution, Vector, inertial_in, solution_in};
 use std::fmt;
 
-// A quantity that is no longer valid stays as it was, which an `Option` would lose. The status is the packet's own number: most have no name here.
-#[derive(Clone, Copy)]
+// Zeros before the first packet. A quantity that is no longer valid stays as it was, which an `Option` would lose. The status is the packet's own number: most have no name here.
+#[derive(Clone, Copy, Default)]
 pub struct Snapshot {
     pub status: u8,
     pub time: Option<u16>,
@@ -21,22 +21,7 @@ impl Snapshot {
     pub(crate) fn new() -> Snapshot
         ensures value { result ≡ first_snapshot }
     {
-        let zero = Vector { x: 0, y: 0, z: 0 };
-        Snapshot {
-            status: 0,
-            time: None,
-            inertial_valid: false,
-            solution_valid: false,
-            accelerations: zero,
-            rates: zero,
-            solution: Solution {
-                latitude: 0,
-                longitude: 0,
-                altitude: 0,
-                velocity: zero,
-                attitude: zero,
-            },
-        }
+        Snapshot::default()
     }
 
     // Status 0: the packet has no quantities.
