@@ -18,14 +18,14 @@ impl ChannelSet {
     pub fn contains(&self, channel: u8) -> bool
         ensures value { result ≡ has self.now channel }
     {
-        self.words[channel as usize / 64] >> (channel % 64) & 1 == 1
+        self.words[usize::from(channel) / 64] >> (channel % 64) & 1 == 1
     }
 
     pub fn insert(&mut self, channel: u8)
         ensures value { self.new ≡ with_channel self.old channel }
         ensures members { (k : ℕ) → k < 256 → has self.new k ≡ (k == channel || has self.old k) }
     {
-        self.words[channel as usize / 64] |= 1 << (channel % 64);
+        self.words[usize::from(channel) / 64] |= 1 << (channel % 64);
     }
 
     // How many channels are in the set.

@@ -41,13 +41,14 @@ fn time_from(minutes: u32, status: u8, time: Option<u16>) -> Result<u64, Refusal
 {
     match time {
         Some(time) if minutes >= 1000 && minutes <= 0x7FFF_FFFF && status > 1 && time <= 59_999 => {
-            Ok(minutes as u64 * 60_000 + time as u64)
+            Ok(u64::from(minutes) * 60_000 + u64::from(time))
         }
         _ => Err(Refusal::NotValid),
     }
 }
 
 impl Navigation {
+    #[tactic(auto, unfolding(crate::specs::Navigations::zero_channels))]
     pub fn new() -> Navigation
         ensures value { result ≡ first_navigation }
     {
@@ -63,7 +64,7 @@ impl Navigation {
     {
         let place = format.channel_place();
         let channel = byte_at(packet, place);
-        self.channels[channel as usize] = bytes_at(packet, place + 1);
+        self.channels[usize::from(channel)] = bytes_at(packet, place + 1);
         self.heard.insert(channel);
     }
 
@@ -99,7 +100,7 @@ impl Navigation {
     {
         self.heard
             .contains(channel)
-            .then_some(self.channels[channel as usize])
+            .then_some(self.channels[usize::from(channel)])
     }
 
     pub fn field(&self, format: Format, channel: u32, number: u32) -> Result<i64, Refusal>
