@@ -1,5 +1,4 @@
 // What navlog writes for a spreadsheet: a row for each message, raw numbers first, then quantities in their units.
-use crate::inbox::Inbox;
 use oxts_units::measure::{Measure, Unit};
 use oxts_units::quantities::{Quantity, inertial, solution, time};
 use reading::message::{Kind, Message};
@@ -21,7 +20,7 @@ pub fn write_header<W: Write>(out: &mut W) -> io::Result<()> {
     write_names(time(), out)?;
     write_names(inertial(), out)?;
     write_names(solution(), out)?;
-    writeln!(out, "")
+    writeln!(out)
 }
 
 // Quantities in their units, or as many empty columns where the message is of another kind.
@@ -43,7 +42,7 @@ fn write_quantities<W: Write>(
     Ok(())
 }
 
-fn write_row<W: Write>(message: &Message, out: &mut W) -> io::Result<()> {
+pub fn write_row<W: Write>(message: &Message, out: &mut W) -> io::Result<()> {
     let Message {
         kind,
         number,
@@ -61,12 +60,5 @@ fn write_row<W: Write>(message: &Message, out: &mut W) -> io::Result<()> {
     write_quantities(time(), of_inertial, out)?;
     write_quantities(inertial(), of_inertial.map(|raws| &raws[1..]), out)?;
     write_quantities(solution(), of_solution, out)?;
-    writeln!(out, "")
-}
-
-pub fn write_rows<W: Write>(inbox: &Inbox, out: &mut W) -> io::Result<()> {
-    for message in inbox.messages.as_slice() {
-        write_row(message, out)?;
-    }
-    Ok(())
+    writeln!(out)
 }

@@ -1,13 +1,14 @@
 // How messages are written: as lines of text, with counts and record behind them, or as a table for a spreadsheet.
-use crate::csv::{write_header, write_rows};
+use crate::csv::{write_header, write_row};
 use crate::inbox::Inbox;
-use crate::text::{write_end, write_messages};
+use crate::text::write_end;
 use oxts_record::record::Record;
 use reader::reader::Reader;
 use reading::family::Family;
 use std::io;
 use std::io::Write;
 
+// Each step is a match of two arms: a trait would need the enum for the command line besides, and be no plainer.
 #[derive(Clone, Copy)]
 pub enum Form {
     Text,
@@ -23,11 +24,15 @@ impl Form {
         }
     }
 
+    // The reader fills the inbox, and the output is the program's: a struct of both would be no plainer.
     pub fn messages<W: Write>(self, inbox: &Inbox, out: &mut W) -> io::Result<()> {
-        match self {
-            Form::Text => write_messages(inbox, out),
-            Form::Csv => write_rows(inbox, out),
+        for message in inbox.messages.as_slice() {
+            match self {
+                Form::Text => writeln!(out, "{message}")?,
+                Form::Csv => write_row(message, out)?,
+            }
         }
+        Ok(())
     }
 
     // What comes behind the last message.

@@ -29,8 +29,7 @@ fn read_piece<F: Family>(
 ) -> Result<(), Failure>
     ensures read { OnOk result (PieceRead F.model reader.old piece.now reader.new inbox.new) }
 {
-    inbox.messages.clear();
-    inbox.kept = Ok(());
+    inbox.clear();
     reader.feed(piece, inbox)?;
     Ok(inbox.kept?)
 }
@@ -59,19 +58,18 @@ impl Logger<'_> {
 
     // Reads the recording through the lines that carry it.
     fn log_from<S: Read>(&self, source: &mut S) -> Result<(), Failure> {
-        if let Carrier::Nothing = self.recording.carrier {
+        let Some(carrier) = self.recording.carrier else {
             return self.log_source(source);
-        }
+        };
         let mut memory = Vec::new(self.rt.alloc());
         source
             .read_to_end(&mut memory)
             .map_err(|error| self.unreadable(error))?;
-        self.log_carried(memory.as_slice())
+        self.log_carried(carrier, memory.as_slice())
     }
 
-    fn log_carried(&self, memory: &[u8]) -> Result<(), Failure> {
-        match self.recording.carrier {
-            Carrier::Nothing => self.log_source(&mut Carried(Plain::new(memory, PIECE))),
+    fn log_carried(&self, carrier: Carrier, memory: &[u8]) -> Result<(), Failure> {
+        match carrier {
             Carrier::Frames => self.log_source(&mut Carried(Opener::new(Plain::new(
                 memory, PIECE,
             )))),
@@ -123,10 +121,7 @@ impl Logger<'_> {
         out: &mut W,
     ) -> Result<Reader<F>, Failure> {
         let mut reader = Reader::new();
-        let mut inbox = Inbox {
-            messages: Vec::new(self.rt.alloc()),
-            kept: Ok(()),
-        };
+        let mut inbox = Inbox::new(self.rt.alloc());
         let mut piece = vec![in self.rt.alloc(); 0; PIECE]?;
         // A source may never end, but a loop must.
         for _ in 0..u64::MAX {

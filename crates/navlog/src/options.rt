@@ -9,7 +9,6 @@ use std::alloc::Global;
 // What carries the bytes of a recording.
 #[derive(Clone, Copy)]
 pub enum Carrier {
-    Nothing,
     Frames,
     Datagrams,
     FramesInDatagrams,
@@ -20,7 +19,8 @@ pub enum Carrier {
 pub struct Recording<'a> {
     pub family: Format,
     pub path: &'a str,
-    pub carrier: Carrier,
+    // None where the bytes are as they came from the line.
+    pub carrier: Option<Carrier>,
     pub form: Form,
 }
 
@@ -31,7 +31,7 @@ pub enum Command<'a> {
     Log(Recording<'a>),
 }
 
-// By a function: the format belongs to another crate, which takes no `TryFrom` from here.
+// The names of families are the command line's own: a library of formats knows none.
 fn family_named(word: &str) -> Option<Format>
     ensures names { Names word.now result }
 {
@@ -61,12 +61,12 @@ fn plain_words(heap: Global, words: &[String]) -> Result<Vec<&str>, Failure> {
     Ok(plain)
 }
 
-fn carried_by(words: &[String]) -> Carrier {
+fn carried_by(words: &[String]) -> Option<Carrier> {
     match (has_word(words, "--datagrams"), has_word(words, "--frames")) {
-        (false, false) => Carrier::Nothing,
-        (false, true) => Carrier::Frames,
-        (true, false) => Carrier::Datagrams,
-        (true, true) => Carrier::FramesInDatagrams,
+        (false, false) => None,
+        (false, true) => Some(Carrier::Frames),
+        (true, false) => Some(Carrier::Datagrams),
+        (true, true) => Some(Carrier::FramesInDatagrams),
     }
 }
 

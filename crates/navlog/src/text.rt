@@ -1,17 +1,9 @@
-// What navlog writes of a recording as lines of text.
-use crate::inbox::Inbox;
+// What navlog writes behind the messages that it wrote as lines of text.
 use oxts_record::record::Record;
 use reader::reader::Reader;
 use reading::family::Family;
 use std::io;
 use std::io::Write;
-
-pub fn write_messages<W: Write>(inbox: &Inbox, out: &mut W) -> io::Result<()> {
-    for message in inbox.messages.as_slice() {
-        writeln!(out, "{message}")?;
-    }
-    Ok(())
-}
 
 // The counts, the record and how many channels were heard.
 pub fn write_end<M, F: Family<Record = Record<M>>, W: Write>(
