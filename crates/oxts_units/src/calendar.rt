@@ -50,7 +50,7 @@ fn days_of_month(year: u64, month: u64) -> u64
     }
 }
 
-// A day counted from 1 January 1980.
+// The year of a day that is counted from 1 January 1980, and its place in that year.
 fn year_day(days: u64) -> YearDay
     requires few { days ≤ 2 ^ 40 }
     ensures from { 1980 ≤ result.year }

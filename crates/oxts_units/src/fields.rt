@@ -1,5 +1,6 @@
 // The fields of status channels by name and unit, in the order of channels and fields. A field that only one format has is here too.
-use crate::measure::{Scale, Unit};
+// They stand apart from the table of layouts since the gateway's libraries hold no text; a test holds both tables against each other.
+use crate::measure::{MILLISECONDS, Scale, Unit};
 
 // Channel, field, name and unit. They go by place: a row is a line, which names would spread over six.
 #[derive(Clone, Copy)]
@@ -20,8 +21,6 @@ const TENTH_SECONDS: Unit = Unit("s", Scale::Steps(1, 1));
 
 const HUNDREDTH_SECONDS: Unit = Unit("s", Scale::Steps(1, 2));
 
-const MILLISECONDS: Unit = Unit("s", Scale::Steps(1, 3));
-
 const ANGLE: Unit = Unit("rad", Scale::Steps(1, 4));
 
 const MILLIMETRES: Unit = Unit("m", Scale::Steps(1, 3));
@@ -33,6 +32,7 @@ const TENTH_MILLIMETRES: Unit = Unit("m", Scale::Steps(1, 4));
 const KIBIBYTES: Unit = Unit("B", Scale::Steps(1024, 0));
 
 const PULSES: Unit = Unit("1/m", Scale::Steps(1, 1));
+
 // Steps of 0.002 %.
 const PROPORTION: Unit = Unit("-", Scale::Steps(2, 5));
 

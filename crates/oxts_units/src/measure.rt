@@ -16,6 +16,8 @@ pub enum Scale {
 #[derive(Clone, Copy)]
 pub struct Unit(pub &'static str, pub Scale);
 
+pub(crate) const MILLISECONDS: Unit = Unit("s", Scale::Steps(1, 3));
+
 // Prints as the quantity alone, without the symbol of its unit.
 #[derive(Clone, Copy)]
 pub struct Measure {
@@ -33,8 +35,8 @@ fn write_decimal<W: fmt::Write>(
     if places == 0 {
         return write!(f, "{magnitude}");
     }
-    let width = places as usize;
-    let (whole, fraction) = match 10u64.checked_pow(places as u32) {
+    let width = usize::from(places);
+    let (whole, fraction) = match 10u64.checked_pow(u32::from(places)) {
         Some(one) => (magnitude / one, magnitude % one),
         None => (0, magnitude),
     };
@@ -49,7 +51,7 @@ impl fmt::Display for Measure {
                 if self.raw < 0 {
                     f.write_char('-')?;
                 }
-                let magnitude = self.raw.unsigned_abs().saturating_mul(each as u64);
+                let magnitude = self.raw.unsigned_abs().saturating_mul(u64::from(each));
                 write_decimal(f, magnitude, places)
             }
             Scale::Single => {

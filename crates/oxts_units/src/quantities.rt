@@ -1,11 +1,9 @@
 // The quantities of inertial and solution messages, by name and unit, in the order in which a message has them: the time of an inertial message first, then the others.
-use crate::measure::{Scale, Unit};
+use crate::measure::{MILLISECONDS, Scale, Unit};
 
 // Name and unit. They go by place: a row is a line, which names would spread over four.
 #[derive(Clone, Copy)]
 pub struct Quantity(pub &'static str, pub Unit);
-
-const MILLISECONDS: Unit = Unit("s", Scale::Steps(1, 3));
 
 const ACCELERATION: Unit = Unit("m/s2", Scale::Steps(1, 4));
 
