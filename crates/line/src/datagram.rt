@@ -32,7 +32,7 @@ fn split_record(memory: &[u8]) -> Option<(&[u8], &[u8])>
     ensures split { MatchOption result (records 0 memory.now ≡ []) (λ p. (records 0 memory.now ≡ p.0.now ∷ records 0 p.1.now) × (length memory.now ≡ 2 + length p.0.now + length p.1.now)) }
 {
     let (length, rest) = memory.split_first_chunk::<2>()?;
-    rest.split_at_checked(u16::from_le_bytes(*length) as usize)
+    rest.split_at_checked(usize::from(u16::from_le_bytes(*length)))
 }
 
 // How many records the whole memory holds; refused where it does not end with a whole record.

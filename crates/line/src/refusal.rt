@@ -36,6 +36,7 @@ impl RecordRefusal {
     }
 }
 
+// Each text is its refusal's own, so the two share nothing but the number in front.
 impl fmt::Display for GrantRefusal {
     fn fmt<W: fmt::Write>(&self, f: &mut fmt::Formatter<W>) -> fmt::Result {
         let number = self.number();
