@@ -121,6 +121,14 @@ fn the_formats_differ_in_40_and_41(rt: HostRuntime) {
 }
 
 #[test]
+fn refusals_have_numbers(rt: HostRuntime) {
+    assert_eq!(rt; Refusal::NoChannel.number(), 9);
+    assert_eq!(rt; Refusal::NoField.number(), 10);
+    assert_eq!(rt; Refusal::NotHeard.number(), 11);
+    assert_eq!(rt; Refusal::NotValid.number(), 12);
+}
+
+#[test]
 fn full_time_needs_channel_0_and_a_status(rt: HostRuntime) -> Result<(), Fail> {
     let reader = read_packets(&[packet(4, 13, 40)])?;
     assert_eq!(rt; reader.record().full_time(), Err(Refusal::NotHeard));

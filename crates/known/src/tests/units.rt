@@ -32,13 +32,19 @@ fn printed(rt: &HostRuntime, raw: i64, scale: Scale) -> Result<String, Fail> {
 
 #[test]
 fn raw_numbers_in_units(rt: HostRuntime) -> Result<(), Fail> {
-    assert!(rt; printed(&rt, -1, Scale::Steps(1, 4))?.as_str() == "-0.0001");
-    assert!(rt; printed(&rt, 8_388_607, Scale::Steps(1, 5))?.as_str() == "83.88607");
-    assert!(rt; printed(&rt, -2, Scale::Steps(5, 3))?.as_str() == "-0.010");
-    assert!(rt; printed(&rt, 3, Scale::Steps(1024, 0))?.as_str() == "3072");
-    assert!(rt; printed(&rt, 0, Scale::Steps(1, 0))?.as_str() == "0");
-    assert!(rt; printed(&rt, 0x3FF8_0000_0000_0000, Scale::Double)?.as_str() == "1.5");
-    assert!(rt; printed(&rt, 0xC000_0000, Scale::Single)?.as_str() == "-2");
+    assert_eq!(rt; printed(&rt, -1, Scale::Steps(1, 4))?.as_str(), "-0.0001");
+    assert_eq!(rt;
+        printed(&rt, 8_388_607, Scale::Steps(1, 5))?.as_str(),
+        "83.88607"
+    );
+    assert_eq!(rt; printed(&rt, -2, Scale::Steps(5, 3))?.as_str(), "-0.010");
+    assert_eq!(rt; printed(&rt, 3, Scale::Steps(1024, 0))?.as_str(), "3072");
+    assert_eq!(rt; printed(&rt, 0, Scale::Steps(1, 0))?.as_str(), "0");
+    assert_eq!(rt;
+        printed(&rt, 0x3FF8_0000_0000_0000, Scale::Double)?.as_str(),
+        "1.5"
+    );
+    assert_eq!(rt; printed(&rt, 0xC000_0000, Scale::Single)?.as_str(), "-2");
     Ok(())
 }
 
@@ -49,11 +55,20 @@ fn dated(rt: &HostRuntime, milliseconds: u64) -> Result<String, Fail> {
 
 #[test]
 fn dates_at_the_edges(rt: HostRuntime) -> Result<(), Fail> {
-    assert!(rt; dated(&rt, 0)?.as_str() == "1980-01-06T00:00:00.000");
-    assert!(rt; dated(&rt, 86_399_999)?.as_str() == "1980-01-06T23:59:59.999");
+    assert_eq!(rt; dated(&rt, 0)?.as_str(), "1980-01-06T00:00:00.000");
+    assert_eq!(rt; dated(&rt, 86_399_999)?.as_str(), "1980-01-06T23:59:59.999");
     // The last of February 2000, a leap year, and of 2100, which is none.
-    assert!(rt; dated(&rt, 7359 * 86_400_000)?.as_str() == "2000-02-29T00:00:00.000");
-    assert!(rt; dated(&rt, 43_883 * 86_400_000)?.as_str() == "2100-02-28T00:00:00.000");
-    assert!(rt; dated(&rt, 43_884 * 86_400_000)?.as_str() == "2100-03-01T00:00:00.000");
+    assert_eq!(rt;
+        dated(&rt, 7359 * 86_400_000)?.as_str(),
+        "2000-02-29T00:00:00.000"
+    );
+    assert_eq!(rt;
+        dated(&rt, 43_883 * 86_400_000)?.as_str(),
+        "2100-02-28T00:00:00.000"
+    );
+    assert_eq!(rt;
+        dated(&rt, 43_884 * 86_400_000)?.as_str(),
+        "2100-03-01T00:00:00.000"
+    );
     Ok(())
 }
