@@ -9,6 +9,7 @@ use oxts::words::{byte_at, bytes_at};
 fn pattern(bytes: &[u8; 8], layout: Layout) -> u32
     ensures value { result ≡ pattern_of layout.form bytes.now layout.place }
 {
+    // The standard library has no `From<u32>` for `usize`.
     let place = layout.place as usize;
     let byte = byte_at(bytes, place);
     match layout.form {
