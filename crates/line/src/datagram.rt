@@ -41,7 +41,7 @@ pub fn record_count(memory: &[u8]) -> Result<usize, RecordRefusal>
 {
     let mut rest = memory;
     let mut count = 0;
-    // Tried by `iter::from_fn` and `count`, which say nothing of the memory that is left; an iterator of records would need a type and clauses of its own.
+    // Tried by `iter::from_fn` and `count`: the proofs of its end and of the memory that is left did not close. An iterator of records would need a type and clauses of its own.
     while let Some((_, after)) = split_record(rest) {
         rest = after;
         count += 1;
