@@ -104,6 +104,7 @@ pub fn status_batch_in(format: Format, packet: &[u8]) -> StatusBatch
     }
 }
 
+// A vector and a solution each print their own fields.
 impl fmt::Display for Vector {
     fn fmt<W: fmt::Write>(&self, f: &mut fmt::Formatter<W>) -> fmt::Result {
         let Vector { x, y, z } = *self;

@@ -8,7 +8,7 @@ use oxts::status::Structure;
 use oxts::words::byte_at;
 use reading::message::{Body, Kind};
 
-// Without an answer, `search` gives up at a limit here and at the solution: both keep a line.
+// The proofs of this and of the solution keep an answer each: without them `search` comes to its limit.
 pub(crate) fn inertial_body(packet: &[u8]) -> Body
     ensures value { result ≡ inertial_body packet.now }
 {

@@ -45,7 +45,7 @@ fn quiet_blocks(bytes: &[u8]) -> usize
         if has_sync(block) {
             return n;
         }
-        // The bytes of the blocks that the `for` has gone over.
+        // The bytes of the blocks that the `for` has gone over: by `take_while` and `count` it took longer.
         n += 16;
     }
     n

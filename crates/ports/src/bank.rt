@@ -29,6 +29,7 @@ fn index_of(port: u32) -> Option<usize>
     (i < PORTS).then_some(i)
 }
 
+// The four calls differ in what they call and in the types of what that answers, so one function for them would be no plainer.
 // Each call says in full what it answers, leaves and names: a record of these clauses would need the call, the result and both states, and be no plainer.
 impl Bank {
     // All ports are closed.

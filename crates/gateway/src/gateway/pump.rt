@@ -62,10 +62,10 @@ impl<F: Family> Gateway<F> {
         if limit == 0 || limit > MOST_LIMIT {
             return Err(PumpRefusal::BadLimit(limit));
         }
-        if self.reader.pumped() + limit as u64 > MOST_BYTES {
+        if self.reader.pumped() + u64::from(limit) > MOST_BYTES {
             return Err(PumpRefusal::PastMost(limit));
         }
-        // The line chooses how many bytes come, so no `for` counts the turns.
+        // The limit is a budget by a rule of the project, and the line chooses how many bytes come, so no `for` counts the turns.
         let mut left = limit;
         while left > 0 {
             let k = self.draw(line, left as usize);

@@ -8,8 +8,8 @@ use Rattle.gateway.proofs.gateway.Gateway.pump.Goals.{else-loop-left-test, then-
 pub returns-then-limit-eq0-clause-run : goal.returns-then-limit-eq0-clause-run
 returns-then-limit-eq0-clause-run g c h rep = goes_refused g.F.Family.model g.F.Family.laws _ _ _ 1 h rep (grind (arith, c.then-limit-eq0.either))
 
-pub returns-then-pumped-limit-gt-MOST_BYTES-clause-run : goal.returns-then-pumped-limit-gt-MOST_BYTES-clause-run
-returns-then-pumped-limit-gt-MOST_BYTES-clause-run g c h rep = goes_refused g.F.Family.model g.F.Family.laws _ _ _ 2 h rep (grind (arith, c.pumped.ensures.value))
+pub returns-then-pumped-from-gt-MOST_BYTES-clause-run : goal.returns-then-pumped-from-gt-MOST_BYTES-clause-run
+returns-then-pumped-from-gt-MOST_BYTES-clause-run g c h rep = goes_refused g.F.Family.model g.F.Family.laws _ _ _ 2 h rep (grind (arith, c.pumped.ensures.value))
 
 pub loop-left-preserved : goal.loop-left-preserved
 loop-left-preserved g c =
