@@ -42,6 +42,7 @@ Cut [] = Unit {0}
 Cut (low ∷ []) = Unit {0}
 Cut (low ∷ high ∷ memory) = length memory < low + high * 256
 
+-- Each number is a byte. From the front, as records are read; the library's `All` goes by place.
 abbrev pub Bytes : List ℕ → Type 0
 Bytes [] = Unit {0}
 Bytes (b ∷ bs) = (b < 256) × Bytes bs

@@ -11,6 +11,7 @@ use Rattle.reading.specs.Kinds.{kind_bit}
 use Rattle.reading.specs.Reading.{Model, Packet, reading, is_passed}
 use Rattle.reading.specs.Rules.{Accepts}
 
+-- P holds of each. From the front, as what is proved of packets goes; the library's `All` goes by place.
 abbrev pub Each : {A : Type 0} → (A → Type 0) → List A → Type 0
 Each P [] = Unit {0}
 Each P (x ∷ xs) = P x × Each P xs
