@@ -12,6 +12,7 @@ pub fn two_grants() -> [u8; 2]
 {
     let bytes = [1, 2, 3, 4, 5];
     let mut line = Meter::new(Plain::new(&bytes, 3));
+    // The result itself, which has two bytes whatever comes.
     let mut out = [0; 2];
     let _ = line.grant(2);
     fill(&mut line, &mut out);

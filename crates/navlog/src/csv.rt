@@ -42,7 +42,7 @@ fn write_quantities<W: Write>(
     Ok(())
 }
 
-pub fn write_row<W: Write>(message: &Message, out: &mut W) -> io::Result<()> {
+pub(crate) fn write_row<W: Write>(message: &Message, out: &mut W) -> io::Result<()> {
     let Message {
         kind,
         number,

@@ -17,7 +17,7 @@ pub enum Form {
 
 impl Form {
     // What comes before the first message.
-    pub fn begin<W: Write>(self, out: &mut W) -> io::Result<()> {
+    pub(crate) fn begin<W: Write>(self, out: &mut W) -> io::Result<()> {
         match self {
             Form::Text => Ok(()),
             Form::Csv => write_header(out),
@@ -25,7 +25,7 @@ impl Form {
     }
 
     // The reader fills the inbox, and the output is the program's: a struct of both would be no plainer.
-    pub fn messages<W: Write>(self, inbox: &Inbox, out: &mut W) -> io::Result<()> {
+    pub(crate) fn messages<W: Write>(self, inbox: &Inbox, out: &mut W) -> io::Result<()> {
         for message in inbox.messages.as_slice() {
             match self {
                 Form::Text => writeln!(out, "{message}")?,
@@ -36,7 +36,7 @@ impl Form {
     }
 
     // What comes behind the last message.
-    pub fn end<M, F: Family<Record = Record<M>>, W: Write>(
+    pub(crate) fn end<M, F: Family<Record = Record<M>>, W: Write>(
         self,
         reader: &Reader<F>,
         out: &mut W,

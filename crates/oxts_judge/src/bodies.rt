@@ -8,7 +8,7 @@ use oxts::status::Structure;
 use oxts::words::byte_at;
 use reading::message::{Body, Kind};
 
-// The proofs of this and of the solution keep an answer each: without them `search` comes to its limit.
+// This and the solution keep an answer each: without it the solution stays open, and this proves with no margin left.
 pub(crate) fn inertial_body(packet: &[u8]) -> Body
     ensures value { result ≡ inertial_body packet.now }
 {

@@ -74,6 +74,7 @@ impl Snapshot {
     }
 }
 
+// Two words for a mark: a type of its own with a `Display` would be no plainer.
 fn validity(valid: bool) -> &'static str {
     if valid { "valid" } else { "invalid" }
 }
