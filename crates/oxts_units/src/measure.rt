@@ -25,7 +25,7 @@ pub struct Measure {
     pub unit: Unit,
 }
 
-// A number with its point before the last `places` digits.
+// A number with its point before the last `places` digits. Twenty digits hold any number: from twenty places on they are printed without a point.
 #[tactic(auto, using(crate::proofs::Tens::ten_some))]
 fn write_decimal<W: fmt::Write>(
     f: &mut fmt::Formatter<W>,
@@ -35,12 +35,15 @@ fn write_decimal<W: fmt::Write>(
     if places == 0 {
         return write!(f, "{magnitude}");
     }
-    let width = usize::from(places);
-    let (whole, fraction) = match 10u64.checked_pow(u32::from(places)) {
-        Some(one) => (magnitude / one, magnitude % one),
-        None => (0, magnitude),
-    };
-    write!(f, "{whole}.{fraction:0width$}")
+    match 10u64.checked_pow(u32::from(places)) {
+        Some(one) => {
+            let whole = magnitude / one;
+            let fraction = magnitude % one;
+            let width = usize::from(places);
+            write!(f, "{whole}.{fraction:0width$}")
+        }
+        None => write!(f, "{magnitude:020}"),
+    }
 }
 
 impl fmt::Display for Measure {

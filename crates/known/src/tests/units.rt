@@ -40,6 +40,15 @@ fn raw_numbers_in_units(rt: HostRuntime) -> Result<(), Fail> {
     assert_eq!(rt; printed(&rt, -2, Scale::Steps(5, 3))?.as_str(), "-0.010");
     assert_eq!(rt; printed(&rt, 3, Scale::Steps(1024, 0))?.as_str(), "3072");
     assert_eq!(rt; printed(&rt, 0, Scale::Steps(1, 0))?.as_str(), "0");
+    // Nineteen places are the most before which a point is printed.
+    assert_eq!(rt;
+        printed(&rt, 12, Scale::Steps(1, 19))?.as_str(),
+        "0.0000000000000000012"
+    );
+    assert_eq!(rt;
+        printed(&rt, -12, Scale::Steps(1, 20))?.as_str(),
+        "-00000000000000000012"
+    );
     assert_eq!(rt;
         printed(&rt, 0x3FF8_0000_0000_0000, Scale::Double)?.as_str(),
         "1.5"
