@@ -117,9 +117,13 @@ impl Run {
     fn layout(&self, format: Format, channel: u32, field: u32) -> Option<Layout>
         ensures value { result ≡ layout_in format channel field self.now }
     {
+        // First of all: most runs are of another channel.
+        if !self.concerns(format, channel) {
+            return None;
+        }
         let Run(_, _, first, place, form, rule, count) = *self;
         let step = field.checked_sub(u32::from(first))?;
-        if !self.concerns(format, channel) || step >= u32::from(count) {
+        if step >= u32::from(count) {
             return None;
         }
         Some(Layout {

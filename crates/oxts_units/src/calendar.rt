@@ -58,7 +58,8 @@ fn year_day(days: u64) -> YearDay
     ensures within { result.day < year_days result.year }
 {
     let mut day = days;
-    for year in 1980..=1980 + days {
+    // Half-open, since a range with its end takes longer to go over.
+    for year in 1980..1981 + days {
         let length = days_of_year(year);
         if day < length {
             return YearDay { year, day };
