@@ -1,6 +1,7 @@
-use Rattle.std.proofs.Common.{◌≡◌, ℕ, zero, suc, ◌+◌, ◌-◌, ◌^◌, ◌<◌, min, List, length, get_or, drop, map, slice_index, add-one, arith, rules}
+use Rattle.std.proofs.Common.{◌≡◌, ℕ, zero, suc, ◌+◌, ◌-◌, ◌^◌, ◌<◌, ◌≤◌, min, List, length, get_or, take, drop, map, slice_index, sym, ◌∙◌, add-one, arith, rules}
 use Rattle.std.proofs.Math.Seq.{drop-cons}
-use Rattle.std.proofs.lemmas.List.{drop_all, get_or_past}
+use Rattle.std.proofs.lemmas.List.{drop_all, get_or-drop, get_or-take, get_or_default, get_or_past, places, same_lists}
+use Rattle.std.proofs.lemmas.List.FromFn.{get_or-map-range_with_len, length-map-range_with_len}
 use Rattle.std.specs.Array.{IsFromFnResultFrom}
 use Rattle.std.specs.Fn.{Called, Mut}
 use Rattle.std.specs.List.{range_with_len}
@@ -20,8 +21,17 @@ made g K h one f ys i (suc n) kept long (f', y, is, called, calls) =
     let more = made g K h one f' ys (i + 1) n kept' (omega arith) calls in
     grind (arith, add-one, drop-cons ys i 0 (omega arith), is.1 0, same, more)
 
-pub returns : goal.returns
-returns g c =
+-- the bytes that lie in a list from a place on, one by one
+lying : (bs : List ℕ) (at n : ℕ) → at + n ≤ length bs → take n (drop at bs) ≡ map (λ i. slice_index bs (at + i)) (range_with_len 0 n)
+lying bs at n h =
+    let long : length (take n (drop at bs)) ≡ n = grind (arith, places) in
+    let item : ℕ → ℕ = λ i. slice_index bs (at + i) in
+    same_lists _ _ (long ∙ sym (length-map-range_with_len item 0 n)) (λ k d lt.
+    let kn : k < n = omega (arith, long, lt) in
+    get_or-take n (drop at bs) k d kn ∙ get_or-drop at bs k d ∙ get_or_default bs (at + k) d 0 (omega arith) ∙ sym (get_or-map-range_with_len item 0 n k k d kn (omega arith)))
+
+pub returns-in-None : goal.returns-in-None
+returns-in-None g c =
     let bs = c.args.bytes.now in
     let at = c.args.at in
     let items = c.from_fn.ensures.items in
@@ -30,3 +40,6 @@ returns g c =
           made _ (λ f. (f.0.now ≡ bs) × (f.1.now ≡ at)) (λ i. slice_index bs (at + i))
           (λ f i y f' kept called. (grind (arith, cut bs (at + i) (search rules), kept), search rules)) _ c.from_fn.result 0 g.row.N (search rules) (omega (arith, items.long)) items.each;
     }
+
+pub returns-in-Some : goal.returns-in-Some
+returns-in-Some g c = record { value = search (rules, lying c.args.bytes.now c.args.at g.row.N) }
