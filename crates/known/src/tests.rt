@@ -6,6 +6,7 @@ mod units;
 use crate::packets::{packet, read_in_two, read_packets};
 use oxts::status::{Structure, structure_of};
 use oxts::words::read_i24;
+use oxts_record::family::{Mcom, Ncom};
 use reading::counts::Counts;
 use std::test::Fail;
 
@@ -25,6 +26,15 @@ fn statuses_at_the_edges(rt: HostRuntime) {
     for status in [8, 9, 12, 19, 23, 255] {
         assert!(rt; structure_of(status).is_none());
     }
+}
+
+fn is_copied<T: Copy>() {}
+
+// A family is only a name, so both are copied, and let go, as any small value.
+#[test]
+fn families_are_copied(_rt: HostRuntime) {
+    is_copied::<Ncom>();
+    is_copied::<Mcom>();
 }
 
 // A sync byte too many, a packet, a damaged one and one cut short, however they are cut in two.

@@ -31,6 +31,7 @@ impl Marker for McomFormat {
 }
 
 // The family of a format.
+#[derive_where(Clone, Copy)]
 pub struct Oxts<M>(PhantomData<M>);
 
 pub type Ncom = Oxts<NcomFormat>;
