@@ -26,10 +26,10 @@ pub among_append : (n : ℕ) (xs ys : List Message) → among n (xs ++ ys) ≡ c
 among_append n [] ys = refl
 among_append n (x ∷ xs) ys = grind (arith, among_append n xs ys)
 
-among_head : (m : Message) (ms : List Message) → among m.number (m ∷ ms) ≡ true
+pub among_head : (m : Message) (ms : List Message) → among m.number (m ∷ ms) ≡ true
 among_head m ms = grind arith
 
-among_later : (n : ℕ) (m : Message) (ms : List Message) → among n ms ≡ true → among n (m ∷ ms) ≡ true
+pub among_later : (n : ℕ) (m : Message) (ms : List Message) → among n ms ≡ true → among n (m ∷ ms) ≡ true
 among_later n m ms e = grind (arith, e)
 
 pub among_itself : (ms : List Message) → All (λ m. among m.number ms ≡ true) ms

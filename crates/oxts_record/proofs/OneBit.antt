@@ -14,7 +14,7 @@ use Rattle.oxts_record.specs.ChannelSets.{has_in, has, members}
 use Rattle.oxts_record.specs.declared.channel_set.ChannelSet.{ChannelSet}
 
 -- where the test p at a + k is the bit k of n, as many pass as n has ones
-ones_count : (d a n : ℕ) (p : ℕ → Bool) → ((k : ℕ) → k < d → p (a + k) ≡ eqb (bit_at n k) 1) → n < 2 ^ d → count_by p (range_with_len a d) ≡ ones n
+pub ones_count : (d a n : ℕ) (p : ℕ → Bool) → ((k : ℕ) → k < d → p (a + k) ≡ eqb (bit_at n k) 1) → n < 2 ^ d → count_by p (range_with_len a d) ≡ ones n
 ones_count zero a n p reads h = omega (arith, ones-le 0 n h)
 ones_count (suc d) a n p reads h =
     let half : n / 2 < 2 ^ d = shr_below n d 1 (rw add-one h) in

@@ -14,14 +14,21 @@ pub record ReachedSoFar (m : Message) (was row : List Port) (i : ℕ) : Type 0 w
   pub back : drop i row ≡ drop i was
   pub long : length row ≡ length was
 
-pub reached_more : {m : Message} {was row : List Port} {i : ℕ} → ReachedSoFar m was row i → (d y : Port) → i < length row → most_missed (map slot_of was) + 1 < 2 ^ 64
-    → (Room (get_or row i d) → slot_of y ≡ arrived (slot_of (get_or row i d)) m) → ReachedSoFar m was (set row i y) (i + 1)
-reached_more {m} {was} {row} {i} so d y within room e =
+same_item : (was row : List Port) (i : ℕ) (d : Port) → drop i row ≡ drop i was → get_or row i d ≡ get_or was i d
+same_item was row i d e = grind (arith, get_or-drop i row 0 d, get_or-drop i was 0 d, e)
+
+pub reached_room : {m : Message} {was row : List Port} {i : ℕ} → ReachedSoFar m was row i → (d : Port) → i < length row → most_missed (map slot_of was) + 1 < 2 ^ 64 → Room (get_or row i d)
+reached_room {m} {was} {row} {i} so d within rooms =
     let within-was : i < length was = rw (sym so.long) within in
-    let same : get_or row i d ≡ get_or was i d = grind (arith, get_or-drop i row 0 d, get_or-drop i was 0 d, so.back) in
+    let same = same_item was row i d so.back in
     let most = most_at (map slot_of was) i in
-    let fits : Room (get_or row i d) = grind (arith, get_or-map slot_of was i d shut within-was) in
-    let here = e fits in
+    grind (arith, get_or-map slot_of was i d shut within-was)
+
+pub reached_more : {m : Message} {was row : List Port} {i : ℕ} → ReachedSoFar m was row i → (d y : Port) → i < length row
+    → slot_of y ≡ arrived (slot_of (get_or row i d)) m → ReachedSoFar m was (set row i y) (i + 1)
+reached_more {m} {was} {row} {i} so d y within e =
+    let within-was : i < length was = rw (sym so.long) within in
+    let same = same_item was row i d so.back in
     record {
       front = grind (arith, common_steps, take_more_set row i y within, map_push, take_more was i d within-was);
       back = grind (arith, common_steps, drop-drop, drop-set-lt);

@@ -8,7 +8,7 @@ use Rattle.law.specs.Calls.{depth}
 use Rattle.law.specs.Slots.{placed}
 use Rattle.ports.specs.Queues.{rotated, rest}
 
-length_rotated : (ring : List Message) (head : ℕ) → head < 16 → length ring ≡ 16 → length (rotated ring head) ≡ 16
+pub length_rotated : (ring : List Message) (head : ℕ) → head < 16 → length ring ≡ 16 → length (rotated ring head) ≡ 16
 length_rotated ring head within full = grind (arith, common_steps)
 
 at_rotated : (ring : List Message) (head k : ℕ) (d : Message) → length ring ≡ 16 → head < 16 → k < 16 → get_or (rotated ring head) k d ≡ get_or ring ((head + k) % 16) d

@@ -9,7 +9,7 @@ use Rattle.reader.specs.declared.reader.Reader.{Reader}
 use Rattle.reading.specs.Reading.{Model, Laws, reading, resumed, Waits}
 use Rattle.reader.specs.Held.{bytes}
 use Rattle.reader.specs.Ledgers.{Agrees}
-use Rattle.reader.specs.Progress.{Moves}
+use Rattle.reader.specs.Progress.{Moved, Moves}
 use Rattle.reader.specs.Standing.{News, Ran}
 use Rattle.reading.proofs.Steps.{stop, resumed_ends, reading_more}
 use Rattle.reader.proofs.Moves.{handed_both, moves_both, moves_still, moves_waits}
@@ -21,22 +21,28 @@ long w = length-take-le w.held w.buffer (omega (arith, w.full, w.few))
 
 module _ {R S : Type 0} (m : Model R) (took : S → Message → S → Type 0) where
   -- all that is left is judged
-  pub moves_end : {l : Ledger R} {w : List ℕ} {n : ℕ} {s : S} {l' : Ledger R} {w' : List ℕ} {n' : ℕ} {s' : S} → length w' ≤ n' →
-      Moves m took l w n s l' w' n' s' → Moves m took l w n s l' w' (length w') s'
-  moves_end {w' = w'} {n' = n'} h f = moves_both m took f (moves_still m took (λ t. resumed_ends m t n' w' h ∙ sym (resumed_ends m t (length w') w' (omega arith))))
+  pub moves_end : {l : Ledger R} {w : List ℕ} {n : ℕ} {s : S} {l' : Ledger R} {w' : List ℕ} {n' k : ℕ} {s' : S} → length w' ≤ n' → length w' ≤ k →
+      Moves m took l w n s l' w' n' s' → Moves m took l w n s l' w' k s'
+  moves_end {w' = w'} {n' = n'} {k = k} h h' f = moves_both m took f (moves_still m took (λ t. resumed_ends m t n' w' h ∙ sym (resumed_ends m t k w' h')))
 
-  -- A ledger and the bytes held that are those of the reading of bs, once xs are behind those bytes and all is judged, are what the reading of bs ++ xs says.
-  read_on : (bs xs : List ℕ) {held rest : List ℕ} {l l' : Ledger R} {k : ℕ} {s s' : S} →
-      Agrees l (reading m bs).tally → held ≡ (reading m bs).held → length rest ≤ k → Moves m took l (held ++ xs) (length held) s l' rest k s' →
-      (rest ≡ (reading m (bs ++ xs)).held) × Agrees l' (reading m (bs ++ xs)).tally × News m bs (bs ++ xs) took s s'
-  read_on bs xs {rest = rest} {l' = l'} {k = k} agrees holds ended moves =
-      let x = moves (reading m bs).tally agrees in
-      let e : reading m (bs ++ xs) ≡ stop x.now_read rest =
-      reading_more m bs xs ∙ ap (λ z. resumed m (reading m bs).tally (length z) (z ++ xs)) (sym holds) ∙ x.same ∙ resumed_ends m x.now_read k rest ended in (
-        sym (ap (λ r. r.held) e),
-        subst (λ r. Agrees l' r.tally) (sym e) x.agrees,
-        record { messages = x.news; beyond = ap (λ r. r.tally.messages) e ∙ x.told; handed = x.handed },
-      )
+  -- A ledger and the bytes held that are those of the reading of bs, once xs are behind those bytes and all is judged.
+  module _ (bs xs : List ℕ) {held rest : List ℕ} {l l' : Ledger R} {k : ℕ} {s s' : S}
+      (agrees : Agrees l (reading m bs).tally) (holds : held ≡ (reading m bs).held) (ended : length rest ≤ k) (moves : Moves m took l (held ++ xs) (length held) s l' rest k s') where
+    abbrev moved : Moved m took (reading m bs).tally (held ++ xs) (length held) s l' rest k s'
+    moved = moves (reading m bs).tally agrees
+
+    -- the reading of bs ++ xs stops there
+    pub read_on : reading m (bs ++ xs) ≡ stop moved.now_read rest
+    read_on =
+        reading_more m bs xs ∙ ap (λ z. resumed m (reading m bs).tally (length z) (z ++ xs)) (sym holds) ∙ moved.same ∙ resumed_ends m moved.now_read k rest ended
+
+    -- so the bytes held, the ledger and what was told are its
+    pub read_apart : (rest ≡ (reading m (bs ++ xs)).held) × Agrees l' (reading m (bs ++ xs)).tally × News m bs (bs ++ xs) took s s'
+    read_apart = (
+      sym (ap (λ r. r.held) read_on),
+      subst (λ r. Agrees l' r.tally) (sym read_on) moved.agrees,
+      record { messages = moved.news; beyond = ap (λ r. r.tally.messages) read_on ∙ moved.told; handed = moved.handed },
+    )
 
   -- What a block does to a reader that holds `held`: w₁ is the window behind which the block stands, w₂ and l₁ are what the scan leaves, and w₃ and l₃ are the same where less is left than the longest packet has.
   module _ (laws : Laws m) (w₁ : Window) {w₂ w₃ : Window} {l l₁ l₃ : Ledger R} (xs : List ℕ) {held all : List ℕ} {next left : ℕ} {s s' : S}
@@ -58,7 +64,7 @@ module _ {R S : Type 0} (m : Model R) (took : S → Message → S → Type 0) wh
     taken bs holds agrees =
         let rest_long : length (bytes w₂) ≡ left = ap length (sym is_rest) ∙ simp length-drop (omega arith) in
         let end : length (bytes w₂) ≤ left = omega arith in
-        let done = read_on bs xs agrees holds end from_held in
+        let done = read_apart bs xs agrees holds end from_held in
         let same = kept (omega (arith, ap length done.0, held_short m laws (bs ++ xs), laws.at_most)) in
         (ap bytes same.0 ∙ done.0, rw same.1 done.1, done.2)
 

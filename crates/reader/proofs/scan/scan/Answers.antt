@@ -29,4 +29,4 @@ loop-cursor-preserved g c =
 pub returns-clause-moves : goal.returns-clause-moves
 returns-clause-moves g c =
     let end = c.loop-cursor.invariant in
-    rw (left_at end.left) (moves_end g.F.Family.model g.S.Sink.took (omega arith) end.moves)
+    rw (left_at end.left) (moves_end g.F.Family.model g.S.Sink.took (omega arith) (omega arith) end.moves)
