@@ -34,7 +34,7 @@ fn has_sync(block: &[u8]) -> bool
 }
 
 // How many of the first bytes lie in blocks of 16 without a sync byte. The library's search was tried here: it takes half
-// as long again where the next sync byte is a packet away, and up to four times as long where it is nearer.
+// as long again where the next sync byte is a packet away, and over four times as long where it is two bytes away.
 // `within` and `none` stand in both of the next two: a struct of slice and number would be taken apart by `quiet` at once.
 fn quiet_blocks(bytes: &[u8]) -> usize
     ensures within { result ≤ length bytes.now }
