@@ -58,15 +58,15 @@ fn year_day(days: u64) -> YearDay
     ensures within { result.day < year_days result.year }
 {
     let mut day = days;
-    // Half-open, since a range with its end takes longer to go over.
-    for year in 1980..1981 + days {
+    // The loop ends by its day: each year takes one or more. An end of the range by `days` takes longer to test.
+    for year in 1980..u64::MAX {
         let length = days_of_year(year);
         if day < length {
             return YearDay { year, day };
         }
         day -= length;
     }
-    // Each year takes a day or more, so the range has the year.
+    // No day is counted so far on.
     unreachable!()
 }
 
